@@ -1,6 +1,6 @@
 -- One more line.
-use Rattle.std.proofs.Common.{◌≡◌, ℕ, zero, suc, ◌+◌, ◌<◌, ◌≤◌, Bool, true, false, List, [], ◌∷◌, ◌++◌, length, take, append-nil, add-one, Option, Some, None, slice_get, refl, sym, ap, subst, ◌∙◌, arith, append_assoc}
-use Rattle.std.specs.Prelude.{◌↔◌, IsTrue, flat_map}
+use Rattle.std.proofs.Common.{◌≡◌, ℕ, zero, suc, ◌+◌, Bool, true, false, List, [], ◌∷◌, ◌++◌, length, take, append-nil, add-one, Some, None, slice_get, refl, sym, ap, subst, ◌∙◌, append_assoc}
+use Rattle.std.specs.Prelude.{◌↔◌, IsTrue}
 use Rattle.cilk_types.specs.declared.event.Instance.{Instance}
 use Rattle.cilk_cert_text.specs.declared.line.Entry.{Entry}
 use Rattle.cilk_cert_maker.specs.declared.sources.LastWrites.{LastWrites}
@@ -11,7 +11,7 @@ use Rattle.cilk_cert_text.specs.declared.line.Frame.{Frame}
 use Rattle.cilk_cert_text.specs.declared.line.Strand.{Strand}
 use Rattle.cilk_cert_text.specs.declared.line.Line.TheVariants as lines
 use Rattle.cilk_cert_text.specs.Certificates.{Contents}
-use Rattle.cilk_cert_text.specs.Gathering.{nothing, with_said}
+use Rattle.cilk_cert_text.specs.Gathering.{with_said}
 use Rattle.cilk_cert_maker.specs.Listed.{created_by, creations, event_in, source_in, source_at, ListsEvent, HasSource}
 use Rattle.cilk_checker.specs.declared.right.Right.{Right}
 use Rattle.cilk_checker.specs.declared.tally.Tally.{Tally}

@@ -5,20 +5,17 @@
 -- - `shows`, `alike`: a finding, on this input and on another one, is the reply;
 -- - `replied`, `holds`: so what is found is the reply, and what is found on every such input holds of the claim;
 -- - `unjudged`: the reply where no program and no input are given.
-use Rattle.std.proofs.Common.{◌≡◌, ◌+◌, ℕ, zero, suc, Bool, true, false, List, [], ◌∷◌, Option, Some, None, cond, length, arith, inl, inr, refl, sym, ap, subst, ◌∙◌}
+use Rattle.std.proofs.Common.{◌≡◌, ◌+◌, ℕ, zero, suc, Bool, true, false, List, [], ◌∷◌, Option, Some, cond, length, arith, inl, inr, refl, sym, subst, ◌∙◌}
 use Rattle.std.specs.Prelude.{ℤ, slice_get}
 use Rattle.std.proofs.lemmas.Option.{slice_get_cases, slice_get_past}
-use Rattle.cilk_types.specs.declared.outcome.Outcome.{Outcome}
 use Rattle.cilk_serial.specs.declared.fault.RunFault.TheVariants as stops
-use Rattle.cilk_determinacy.specs.Words.{InputsAreWords}
-use Rattle.cilk_oblivious.specs.Every.{OnEvery}
 use Rattle.cilk_oblivious.specs.Pairs.{InputsAreAlike}
 use Rattle.cilk_checker.specs.Every.{IsFinding, IsSuchFinding, IsVerdictOnEvery}
 use Rattle.cilk_checker.specs.Judging.{Meant}
 use Rattle.cilk_checker.specs.declared.every.Every.{Every}
 use Rattle.cilk_checker.specs.declared.every.Finding.{Finding}
 use Rattle.cilk_checker.specs.declared.every.Finding.TheVariants.{Fault, Race, Settled}
-use Rattle.cilk_commands.specs.Every.{HasNumbers, HoldsOnEvery, IsOfClaim, SettlesAlike, finding_view, fixed_from}
+use Rattle.cilk_commands.specs.Every.{HasNumbers, HoldsOnEvery, SettlesAlike, finding_view, fixed_from}
 use Rattle.cilk_commands.specs.Replies.{Reply, Text}
 use Rattle.cilk_commands.specs.Serving.{NoneGiven, SettleReply, Surroundings, Unjudged}
 use Rattle.cilk_commands.specs.Shown.{SettleShows}

@@ -24,7 +24,7 @@ use Rattle.cilk_trace.specs.declared.reader.TraceReader.{TraceReader}
 use Rattle.cilk_trace.specs.Binary.{Events, cut_off, ended, events_reading}
 use Rattle.cilk_trace.specs.EventReaders as events
 use Rattle.cilk_trace.specs.Forms.{binary_header, reading_of}
-use Rattle.cilk_trace.specs.Numbers.{Cut, NoMore, Numbers, numbers_from}
+use Rattle.cilk_trace.specs.Numbers.{Cut, NoMore, numbers_from}
 use Rattle.cilk_trace.specs.Reading.{HasNoLf, Reading, stops, whole}
 use Rattle.cilk_trace.specs.Readers.{ahead, ahead_by, fault_by, fault_of}
 use Rattle.cilk_trace.specs.Surveys.{IsTrace, KeepsLimits}
@@ -40,7 +40,7 @@ use Rattle.cilk_commands.specs.declared.trace_pieces.Pieces.{Pieces}
 use Rattle.cilk_commands.specs.Files.{HoldsTo}
 use Rattle.cilk_commands.specs.TraceFaults.{again, told}
 use Rattle.cilk_commands.specs.TracePieces.{HasLines, IsReading, after_lines}
-use Rattle.cilk_commands.specs.TraceTexts.{BeginsTrace, GivesText, HasFormedLines, HasNoMalformedLine, HasSurvey, IsMalformedAt}
+use Rattle.cilk_commands.specs.TraceTexts.{BeginsTrace, HasNoMalformedLine, HasSurvey}
 use Rattle.cilk_commands.proofs.TraceReread.{read_to_end}
 
 -- ---- the end of a reader's text

@@ -1,5 +1,5 @@
 -- `settle` for every input that agrees with a program's own at some positions.
-use Rattle.std.specs.Prelude.{◌≡◌, ℕ, suc, ℤ, Bool, List, [], ◌∷◌, ◌++◌, cond, length, slice_get, Option, Some, None, Result, Ok, Err, codes}
+use Rattle.std.specs.Prelude.{◌≡◌, ℕ, suc, ℤ, Bool, List, [], ◌∷◌, ◌++◌, cond, length, slice_get, Option, Some, Result, Ok, Err, codes}
 use Rattle.cilk_types.specs.Fault as run_faults
 use Rattle.cilk_types.specs.declared.outcome.Outcome.{Outcome}
 use Rattle.cilk_determinacy.specs.Words.{InputsAreWords}

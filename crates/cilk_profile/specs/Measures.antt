@@ -5,7 +5,7 @@ use Rattle.cilk_types.specs.declared.outcome.Outcome.{Outcome}
 use Rattle.cilk_program.specs.Syntax.{Source}
 use Rattle.cilk_serial.specs.Ran.{Ran}
 use Rattle.cilk_tree.specs.Shape.{Shape, Spells}
-use Rattle.cilk_tree.specs.Tree.{tree, leaves}
+use Rattle.cilk_tree.specs.Tree.{tree}
 use Rattle.cilk_tree.specs.Span.{IsSpan}
 use Rattle.cilk_cert_maker.specs.Frames.{frames_of, owners_of}
 use Rattle.cilk_profile.specs.Burdened.{IsBurdenedSpan}

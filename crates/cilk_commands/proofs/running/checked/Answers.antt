@@ -1,4 +1,4 @@
-use Rattle.std.proofs.Common.{ap₂, refl, rules}
+use Rattle.std.proofs.Common.{ap₂, rules}
 use Rattle.cilk_checker.proofs.Uncounted.{refused_by}
 use Rattle.cilk_checker.specs.Judging.{meant}
 use Rattle.cilk_program.specs.Sources.{source}

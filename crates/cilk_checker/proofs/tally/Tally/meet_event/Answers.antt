@@ -1,6 +1,4 @@
-use Rattle.std.proofs.Common.{◌≡◌, ◌∙◌, ap, sym, refl, slice_get, Some, None, Option, true, false}
 use Rattle.std.proofs.lemmas.Bool.{iff_false}
-use Rattle.cilk_types.specs.declared.event.Event.{Event}
 use Rattle.cilk_checker.proofs.Tallying.{event_apart, event_met, no_event, not_listed}
 use Rattle.cilk_checker.proofs.tally.Tally.meet_event.Goals as goal
 
