@@ -16,6 +16,7 @@ sys.dont_write_bytecode = True
 TOP = os.path.dirname(os.path.dirname(os.path.realpath(__file__)))
 sys.path.insert(0, f"{TOP}/tools")
 import answers
+import build_plan
 import first_run
 
 PROGRAM = "crates/cilk/out/cilk"
@@ -31,6 +32,7 @@ STEPS = [
     ("what crates list", "python3", ["tools/crate_lines.py"], 60),
     ("the index of files", "python3", ["tools/index.py"], 60),
     ("where things are", "python3", ["tools/where.py"], 60),
+    ("the list of wrong bodies", "python3", ["tools/wrong_bodies.py"], 60),
     ("hints that cases show", "python3", ["tools/hints_shown.py"], 60),
     ("the cases", "python3", ["tools/cases.py", "run", PROGRAM], 300),
     ("refused memory in a machine's choices", CC, ["tools/each_failure.py", "--choices"], 300),
@@ -78,6 +80,8 @@ def main():
         return 1
     crates = first_run.named()
     sources = answers.sum_of_sources(crates)
+    # by measure, since the kit's own estimate of memory proves one or two of the upper crates at once
+    os.environ.setdefault("RT_JOBS", str(build_plan.processors()))
     status, last = shown(["rt", "ci"])
     counts = LAST_LINE.match(last)
     if status or not counts:

@@ -28,16 +28,15 @@ def path(kind, size, k, tail):
     if size < 8:
         out += ["\tandq\t$-8, %rdx"]
     out += ["\tmovq\t(%rdx), %rax", "\txorq\tcilkrec_now(%rip), %rax"]
-    if size == 8:
-        out += [f"\ttestq\t${-256 if write else -65281}, %rax"]
-    else:
+    out += [f"\ttestq\t${-256 if write else -65281}, %rax", f"\tje\t.Lcr{k}d"]  # all eight bytes
+    if size < 8:
         mask = (1 << size) - 1 << (8 if write else 0)
         out += ["\tmovl\t%edi, %ecx", "\tandl\t$7, %ecx", f"\tmovl\t${mask}, %esi", "\tshll\t%cl, %esi"]
-        out += ["\torq\t$-65536, %rsi", "\ttestq\t%rsi, %rax"]
-    out += [f"\tje\t.Lcr{k}d", f".Lcr{k}s:", f"\tleaq\t.Lcr{k}r(%rip), %rsi", "\tcall\tcilkrec_slow"]
+        out += ["\torq\t$-65536, %rsi", "\ttestq\t%rsi, %rax", f"\tje\t.Lcr{k}d"]
+    out += [f".Lcr{k}s:", f"\tleaq\t.Lcr{k}r(%rip), %rsi", "\tcall\tcilkrec_slow"]
     out += [f".Lcr{k}d:"] + (["\tret"] if tail else [])
     out += ["\t.pushsection .data.cilkrec,\"aw\"", "\t.balign 8", f".Lcr{k}r:"]
-    return out + [f"\t.quad 0, 0, 0, 0, {size << 8 | write}, 0", "\t.popsection"]
+    return out + [f"\t.quad 0, 0, 0, 0, {size << 8 | write}, 0, 0", "\t.popsection"]
 
 
 def inlined(lines):
@@ -61,7 +60,7 @@ def inlined(lines):
 IR_ACCESS = re.compile(r"^  call void @__asan_(load|store)([1248])\((i64 .*)\)((?:, !dbg !\d+)?)$")
 IR_HOOK = re.compile(r"^  call void @__cyg_profile_func_(enter|exit)\(")
 IR_LOCAL = re.compile(r"^  %[A-Za-z_.][^=]* = alloca [^%]*$")
-IR_SITE = "[6 x i64]"  # `struct site` of runtime/recorder.h
+IR_SITE = "[7 x i64]"  # `struct site` of runtime/recorder.h
 IR_FRAME = "declare i8* @llvm.frameaddress.p0i8(i32 immarg)"
 IR_HEAD = """
 @cilkrec_stack_low = external dso_local global i64
@@ -69,10 +68,10 @@ IR_HEAD = """
 @cilkrec_now = external dso_local global i64
 @cilkrec_base = external dso_local global i64
 @cilkrec_spawning = external dso_local global i32
-declare void @cilkrec_slow(i64, [6 x i64]*)
+declare void @cilkrec_slow(i64, [7 x i64]*)
 """
 IR_PATH = """
-define internal void @cilkrec_fast_{word}{size}(i64 %p, [6 x i64]* %site) alwaysinline nounwind {{
+define internal void @cilkrec_fast_{word}{size}(i64 %p, [7 x i64]* %site) alwaysinline nounwind {{
   %low = load i64, i64* @cilkrec_stack_low
   %span = load i64, i64* @cilkrec_span
   %height = sub i64 %p, %low
@@ -96,7 +95,7 @@ look:
   %is_new = icmp ne i64 %new, 0
   br i1 %is_new, label %slow, label %done
 slow:
-  call void @cilkrec_slow(i64 %p, [6 x i64]* %site)
+  call void @cilkrec_slow(i64 %p, [7 x i64]* %site)
   br label %done
 done:
   ret void
@@ -168,7 +167,7 @@ def inlined_ir(lines):
     if not used or any(" ptr " in line for line in lines[:400]):
         return lines
     for k, what in enumerate(sites, 1):
-        out.append(f"@cilkrec_site_{k} = internal global {IR_SITE} [i64 0, i64 0, i64 0, i64 0, i64 {what}, i64 0], "
+        out.append(f"@cilkrec_site_{k} = internal global {IR_SITE} [i64 0, i64 0, i64 0, i64 0, i64 {what}, i64 0, i64 0], "
                    'section ".data.cilkrec", align 8')
     return out + ir_functions(used, any(line.startswith(IR_FRAME) for line in lines))
 

@@ -35,6 +35,8 @@ LINE_MARKER = re.compile(r'^# (\d+) "([^"\n]*)"', re.M)
 OPENING = {")": "(", "]": "[", "}": "{"}
 HEADS = ("if", "for", "while", "switch", "constexpr")
 WORDS = re.compile(r"\bcilk_(spawn|scope|reducer)\b")
+INLINED = {"always_inline", "__always_inline__"}
+INLINED_NAME = re.compile(r"\b(?:__always_inline__|always_inline)\b[^;{}]*?\b(?!__attribute__\b)(\w+)\s*\(")
 # Attributes of functions whose accesses, or calls, the compiler then doesn't tell.
 UNTOLD = re.compile(
     r"\b_*(no_sanitize(?:_thread|_address)?|no_address_safety_analysis|no_instrument_function"
@@ -57,6 +59,7 @@ class Marker:
 
     def __init__(self, text, clang, cxx):
         self.text, self.clang, self.cxx, self.edits, self.returns = text, clang, cxx, [], {}
+        self.inlined = set(INLINED_NAME.findall(text)) if clang else set()
         self.tokens = [
             Token(m.lastgroup if m.lastgroup != "fence" else "text", m.group(), m.start(), m.end())
             for m in TOKEN.finditer(text)
@@ -165,11 +168,23 @@ class Marker:
             raise self.fault(i, "cilk_spawn after `,`; give it a statement of its own")
         return left[:-1]
 
+    def refuse_inlined(self, i, last):
+        """Refuses a spawn in a function that the compiler puts into another one, whose frame it would have, and with clang
+        one of such a function, which has no hooks there."""
+        brace = self.body_of(self.outer[i])
+        if brace and INLINED & set(self.head_of(brace)):
+            raise self.fault(i, "a function that spawns is always_inline: take that attribute away")
+        if self.clang and self.tokens[last - 1].text == ")":
+            if self.tokens[self.partner[last - 1] - 1].text in self.inlined:
+                raise self.fault(i, "a function that is always_inline is spawned: clang has no frame for it; "
+                                    "take that attribute away")
+
     def mark_spawn(self, i):
         """The marks of one spawn."""
         if self.tokens[i + 1].text == "{":
             raise self.fault(i, "cilk_spawn of a block; put the block into a function")
         first, last = self.statement_start(i), self.statement_end(i)
+        self.refuse_inlined(i, last)
         place, begin, into = self.place_of_result(i, first), "cilkrec_spawn_begin(); ", ""
         if self.cxx:
             begin = "cilkrec_spawn_inside(); "

@@ -155,11 +155,30 @@ def told_ir(lines):
         yield f"\ndeclare void @{name}()\n"
 
 
+LABEL = re.compile(r"([A-Za-z_$][\w.$]*):")
+HOOK = re.compile(r"(\s+call\s+\*?)__cyg_profile_func_(enter|exit)(?=\W)")
+LOADED = re.compile(r"\s+(?:lea|mov|movabs)[lq]\s+\$?([A-Za-z_$][\w.$]*)(?:@\w+)?(?:\(%rip\))?, %")
+
+
+def with_own_hooks(lines):
+    """gcc's text, where the hooks of a function that lies in another one (`always_inline`) have names of their own."""
+    function = loaded = ""
+    for line in lines:
+        label, address, hook = LABEL.match(line), LOADED.match(line), HOOK.match(line)
+        if label:
+            function = label[1]
+        elif address:
+            loaded = address[1]
+        elif hook and loaded and function != loaded and not function.startswith(loaded + "."):
+            line = HOOK.sub(r"\1cilkrec_inlined_\2", line, count=1)
+        yield line
+
+
 def told_assembly(lines, has_plugin):
     """gcc's text, where the load of a guard has a name of its own. Without the plugin a call of the runtime comes before inline
     assembly: each function calls the hooks, so it keeps nothing below its stack."""
     recent, held, is_code = [], [], False
-    for line in lines:
+    for line in with_own_hooks(lines):
         if ".cfi_startproc" in line or ".cfi_endproc" in line:
             is_code = "start" in line
         if line.startswith("#APP") and is_code and not has_plugin:

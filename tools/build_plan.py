@@ -8,10 +8,10 @@ of the table, and simulates what is left.
 import os
 import re
 
-USUAL = 1.0  # how much longer than the table a machine takes, while nothing of it is known
-KNOWN_BY = 2.0  # the minutes of the table after which that counts for half
-MINUTES_A_LINE = 0.0025  # of code, in a crate that the table doesn't have
-LAST = 0.3  # minutes of the table once all is proved: the program runs and is copied
+USUAL = 0.6  # how many times as long as the table, of a slow machine, a machine takes, while nothing of it is known
+KNOWN_BY = 3.4  # the minutes of the table after which that counts for half
+MINUTES_A_LINE = 0.0042  # of code, in a crate that the table doesn't have
+LAST = 0.5  # minutes of the table once all is proved: the program runs and is copied
 MEMORY = 4_500_000  # kilobytes of a process of the prover: few take more, most of them half
 
 
@@ -40,8 +40,8 @@ def needed(found, top):
 
 
 def minutes_of(table, names, lines):
-    """The processor minutes of each crate's proof, from the table of docs/GATE.md; by its lines where it has no row."""
-    found = dict(re.findall(r"^\| `(\w+)` \| *([\d.]+) *\|", table, re.M))
+    """The processor minutes of each crate's proof, from the table of docs/GATE.md; by its lines where it isn't there."""
+    found = dict(re.findall(r"\| `(\w+)` \| *([\d.]+) *(?=\|)", table))
     return {name: float(found[name]) if name in found else lines[name] * MINUTES_A_LINE for name in names}
 
 
@@ -134,7 +134,7 @@ class Estimate:
         slower = self.usual
         for _ in range(8):
             part = sum(min((now - began) / slower, 0.9 * self.minutes[name]) for name, began in self.began.items())
-            slower = max(took / (KNOWN_BY + self.of + part), 0.2)
+            slower = max(took / (KNOWN_BY + self.of + part), 0.1)
         return slower
 
     def left(self, now):

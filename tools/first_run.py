@@ -158,7 +158,7 @@ class Progress:
         done, of = len(self.estimate.done), len(self.sums)
         left = self.estimate.left(self.now())
         if not done and not self.record["proved"]:  # (nothing is known of this machine, nor of what the kit keeps)
-            return f"0 of {of} crates proved; on the machine of docs/GATE.md it takes about {left:.0f} min"
+            return f"0 of {of} crates proved; about {left:.0f} min by a first guess"
         about = f"about {left:.0f} min" if left >= 1 else "less than a minute"
         return f"{done} of {of} crates proved, {self.now():.0f} min; {about} left"
 

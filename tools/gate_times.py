@@ -3,15 +3,16 @@
 
 gate_times.py run [--write]      runs `rt ci` here, with no other check beside it, and watches it; the status is that of `rt ci`
 gate_times.py watch FILE         watches every check on this machine until it is stopped, and keeps what it saw in FILE
-gate_times.py table FILE [--by N] [--write]     the table of what such a FILE holds, each time divided by N
+gate_times.py table FILE [--write]     the table of what such a FILE holds
 
 A process of the prover proves one crate, its tests, or tries one edit. Each is looked at every second, and counts with its
 processor time as it was last seen, so that up to a second of each is missing. `--write` puts the times of the crates that
-were seen into the table of docs/GATE.md; the other rows stay. What `rt` keeps isn't proved again: for the whole table run it
-on a machine that has kept nothing.
+were seen into the table of docs/GATE.md, with the number of edits of each; the other entries stay. What `rt` keeps isn't
+proved again: for the whole table run it on a machine that has kept nothing, and write machine and date there too.
 """
 
 import argparse
+import glob
 import json
 import os
 import re
@@ -28,7 +29,8 @@ import build_plan
 TOP = os.path.dirname(os.path.dirname(os.path.realpath(__file__)))
 PAGE = f"{TOP}/docs/GATE.md"
 KINDS = ("proof", "tests", "edits")
-ROW = re.compile(r"^\| `(\w+)` \|([^|]*)\|([^|]*)\|([^|]*)\|([^|]*)\|$")
+HEAD = "| Crate | Proof | Tests | Edits " * 2 + "|\n" + "|---" * 8 + "|\n"
+ENTRY = re.compile(r"\| `(\w+)` \|([^|\n]*)\|([^|\n]*)\|([^|\n]*)(?=\|)")  # two a row
 
 
 def kind_of(words):
@@ -63,12 +65,12 @@ def look(seen):
         seen[f"{process} {told[19]}"] = [*kind, max(seconds, before[2]), max(memory, before[3])]
 
 
-def minutes_in(seen, by):
+def minutes_in(seen):
     """The minutes of each crate that was seen, by kind."""
     found = {}
     for crate, kind, seconds, _ in seen.values():
         times = found.setdefault(crate, dict.fromkeys(KINDS, 0.0))
-        times[kind] += seconds / 60 / by
+        times[kind] += seconds / 60
     return found
 
 
@@ -77,21 +79,24 @@ def shown(minutes):
 
 
 def write(found):
-    """Puts these minutes into the page's table, and rows for crates that it lacks at its end."""
+    """Puts these minutes into the page's table, which has the crates in the order of crates.txt."""
     with open(PAGE, encoding="utf-8") as file:
-        lines = file.read().split("\n")
-    rows = {cells[1]: at for at, line in enumerate(lines) if (cells := ROW.match(line))}
-    for crate in sorted(set(found) - set(rows)):
-        lines.insert(max(rows.values()) + 1, f"| `{crate}` | | | | |")
-        rows[crate] = max(rows.values()) + 1
+        before, head, rest = file.read().partition(HEAD)
+    table, end, after = rest.partition("\n\n")
+    entries = {crate: [cell.strip() for cell in cells] for crate, *cells in ENTRY.findall(table)}
     for crate, times in found.items():
-        cells = [cell.strip() for cell in ROW.match(lines[rows[crate]]).groups()[1:]]
+        cells = entries.setdefault(crate, [""] * len(KINDS))
         for at, kind in enumerate(KINDS):
             if times[kind] > 0:
                 cells[at] = shown(times[kind])
-        lines[rows[crate]] = f"| `{crate}` | {cells[0]} | {cells[1]} | {cells[2]} | {cells[3]} |"
+                if kind == "edits":
+                    cells[at] += f" ({len(glob.glob(f'{TOP}/crates/{crate}/must-fail/*.edit'))})"
+    with open(f"{TOP}/crates.txt", encoding="utf-8") as listed:
+        halves = [f"| `{it}` | {' | '.join(entries[it])} " for it in build_plan.crates_of(listed.read()) if it in entries]
+    halves += ["| | | | "] * (len(halves) % 2)
+    rows = [f"{left}{right}|" for left, right in zip(halves[::2], halves[1::2])]
     with open(PAGE, "w", encoding="utf-8") as file:
-        file.write("\n".join(lines))
+        file.write(before + head + "\n".join(rows) + end + after)
 
 
 def longest_chain(found):
@@ -113,9 +118,9 @@ def longest_chain(found):
     return minutes, chains[last][1]
 
 
-def tell(seen, by, is_written):
+def tell(seen, is_written):
     """Prints what was seen, and writes it where that is asked for."""
-    found = minutes_in(seen, by)
+    found = minutes_in(seen)
     for crate in sorted(found):
         print(f"{crate:24}" + "".join(f"{shown(found[crate][kind]) if found[crate][kind] else '':>9}" for kind in KINDS))
     print(f"{'in all':24}" + "".join(f"{sum(times[kind] for times in found.values()):9.1f}" for kind in KINDS))
@@ -146,7 +151,7 @@ def run(is_written):
     took = (time.monotonic() - began) / 60
     ended.set()
     watcher.join()
-    tell(seen, 1.0, is_written)
+    tell(seen, is_written)
     print(f"by the clock: {took:.1f} minutes")
     return status
 
@@ -158,7 +163,6 @@ def main():
     commands.add_parser("watch").add_argument("file")
     table = commands.add_parser("table")
     table.add_argument("file")
-    table.add_argument("--by", type=float, default=1.0)
     table.add_argument("--write", action="store_true")
     words = asked.parse_args()
     if words.command == "run":
@@ -170,7 +174,7 @@ def main():
         watched({}, ended, words.file)
         return 0
     with open(words.file, encoding="utf-8") as file:
-        tell(json.load(file), words.by, words.write)
+        tell(json.load(file), words.write)
     return 0
 
 

@@ -5,7 +5,7 @@ tools/hostile.py PROGRAM [--seconds N] [--seed S] [--only NAME] [--list] [--prog
 tools/hostile.py --self-test PROGRAM [--seed S] [--only NAME] [--slower N]
 
 Memory is refused, devices fail, limits are met, files are odd or change, and texts, certificates, scripts and programs
-are damaged or made by chance (docs/HOSTILE.md). Each case has a line that says how much it tried; the last line is
+are damaged or made by chance (docs/TESTED.md). Each case has a line that says how much it tried; the last line is
 `N passed, M failed`, of cases. The cases that are known go first; those by chance continue until the time is over, or,
 with no --seconds, until that number of texts was damaged and of programs made. A case that no time was left for is named
 as left out, and not counted. Needs a C compiler for the library that refuses.

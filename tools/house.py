@@ -4,7 +4,8 @@
 house.py [--crates]    with a line for each crate, too
 
 Answers are the files of goals that the prover can't find by itself (`Answers.antt`), a part of the proofs. Explaining is what makes
-texts for people: messages, findings, races, profiles, reports. Pages by hand are those of docs/ but for the generated ones.
+texts for people: messages, findings, races, profiles, reports. Pages by hand are those of docs/ but for the generated ones, and for the
+generated list of wrong bodies.
 """
 
 import collections
@@ -15,6 +16,7 @@ import sys
 TOP = os.path.dirname(os.path.dirname(os.path.realpath(__file__)))
 EXPLAINING = ("cilk_messages", "cilk_findings", "cilk_depends", "cilk_races", "cilk_profile", "cilk_report")
 GENERATED = ("docs/INDEX.md", "docs/INDEX-PROOFS.md")
+LIST = b"\n## All of them\n"  # (from here on tools/wrong_bodies.py writes docs/WRONG-BODIES.md)
 TESTS = ("cilk_base_tests", "cilk_text_tests", "cilk_thread_tests", "cilk_worker_tests", "cilk_rows", "cilk_served")
 
 
@@ -25,9 +27,10 @@ def files():
 
 
 def length(path):
-    """The number of lines of a file."""
+    """The number of lines of a file, without a generated list."""
     with open(f"{TOP}/{path}", "rb") as it:
-        return it.read().count(b"\n")
+        text = it.read()
+    return (text.partition(LIST)[0] if path == "docs/WRONG-BODIES.md" else text).count(b"\n")
 
 
 def main():

@@ -29,7 +29,7 @@ HEADS = {
               " one function lies in\n`proofs/MODULE/FUNCTION/`, and has no line here.\n",
 }
 READMES = {
-    "bench": "# Benchmarks\n\nNo step of the gate runs them. [GATE.md](../docs/GATE.md) has results; each first comment says how to call it.\n",
+    "bench": "# Benchmarks\n\nNo step of the gate runs them. [RESULTS.md](RESULTS.md) has results; each first comment says how to call it.\n",
     "tools": "# Tools\n\nEach docstring says how to call its tool.\n",
 }
 WRITTEN = "Written by `tools/index.py --write` from the files' first comments.\n"

@@ -96,9 +96,9 @@ def answered(tool, numbers):
     """The positions that the answer fixes where it speaks of every input, and what kind of answer it is."""
     tool.lay("own", written(numbers))
     out, err = tool.says("settle", "program.c", "--input", "own", "--every", "--json")
-    if err.startswith(tuple(it.encode() for it in LIMITS)) or b'"fault":20' in out and re.search(rb'"fault":20[456]', out):
+    said = json.loads(out) if out else {"reply": err.decode()}
+    if said["reply"].startswith(LIMITS):
         return None, "left out: a limit"
-    said = json.loads(out)
     if "every" not in said:
         return None, "of this input alone"
     fixed = {it[0] for it in said["every"]["fixed"]}
@@ -112,7 +112,7 @@ def compare(tool, chance, numbers, pairs, seen):
     if fixed is None or len(fixed) == len(numbers):
         return None
     events, verdict = tool.run_on("own")
-    seen["faults" if isinstance(events, list) else "races" if verdict[0][0].startswith(b"refused") else "settled"] += 1
+    seen["faults" if isinstance(events, list) else "races" if b": refused" in verdict[0][0] else "settled"] += 1
     for _ in range(pairs):
         others = alike(chance, numbers, fixed)
         tool.lay("other", written(others))
@@ -131,7 +131,7 @@ def main():
     known.add_argument("--cilk", default=f"{TOP}/cilk")
     known.add_argument("--keep", default=".")
     known.add_argument("--pairs", type=int, default=20)
-    words = known.parse_args()
+    words = known.parse_intermixed_args()
     seen = collections.Counter()
 
     def differs(name, text, numbers, others):

@@ -11,7 +11,7 @@ _cilk() {
         *:certify:*) words="--input --explain --color --help" ;;
         *:check:*) words="--input --helpers --explain --color --help" ;;
         *:threads:*) words="--workers --input --on --stats --explain --color --help" ;;
-        *:play:*) words="--workers --input --trace --explain --color --help" ;;
+        *:play:*) words="--workers --input --strict --trace --explain --color --help" ;;
         *:schedule:*) words="--input --explain --color --help" ;;
         *:measure:*) words="--input --csv --svg --dot --explain --color --help" ;;
         *:judge:*) words="--sites --explain --color --help" ;;

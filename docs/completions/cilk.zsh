@@ -12,7 +12,7 @@ _cilk() {
         *:certify:*) words_of="--input --explain --color --help" ;;
         *:check:*) words_of="--input --helpers --explain --color --help" ;;
         *:threads:*) words_of="--workers --input --on --stats --explain --color --help" ;;
-        *:play:*) words_of="--workers --input --trace --explain --color --help" ;;
+        *:play:*) words_of="--workers --input --strict --trace --explain --color --help" ;;
         *:schedule:*) words_of="--input --explain --color --help" ;;
         *:measure:*) words_of="--input --csv --svg --dot --explain --color --help" ;;
         *:judge:*) words_of="--sites --explain --color --help" ;;

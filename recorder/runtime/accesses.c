@@ -241,29 +241,39 @@ static inline void access_cells(enum kind kind, uintptr_t address, uint64_t size
     put_cells(kind, address, size, site_before(return_address));
 }
 
+/* Whether an access that isn't one word's plain one is dealt with here. */
+static __attribute__((noinline)) bool is_odd(uintptr_t address, const struct site *s, const void *return_address)
+{
+    unsigned size = (unsigned)s->what >> 8;
+    enum kind kind = (enum kind)(s->what & 1);
+
+    if (is_other(kind, address, return_address))
+        return true;
+    if (unlikely(is_looking))
+        look_at_access(address, size, return_address);
+    if ((address & 7) + size <= 8 && !is_all_written)
+        return false;
+    if (!repeats(kind, address, size))
+        put_cells(kind, address, size, site_before(return_address));
+    return true;
+}
+
 /* What the fast path (inline.py) doesn't leave out. */
 void cilkrec_slow(uintptr_t address, struct site *s)
 {
     unsigned size = (unsigned)s->what >> 8, offset = address & 7;
-    enum kind kind = (enum kind)(s->what & 1);
 
-    if ((unlikely(cilkrec_special) || address - own_low < own_size) && is_other(kind, address, RETURN_ADDRESS))
+    if (unlikely(cilkrec_special || offset + size > 8 || address - own_low < own_size)
+        && is_odd(address, s, RETURN_ADDRESS))
         return;
-    if (unlikely(is_looking))
-        look_at_access(address, size, RETURN_ADDRESS);
-    if (unlikely(offset + size > 8 || is_all_written)) {
-        if (!repeats(kind, address, size))
-            put_cells(kind, address, size, site_before(RETURN_ADDRESS));
-        return;
-    }
     uint64_t *word = shadow(address), w = *word, m = (uint64_t)((1u << size) - 1) << offset, now = cilkrec_now;
     if ((w ^ now) >> 16)
         w = now & ~0xFFFFull;
-    *word = w | m | (kind == WRITE ? m << 8 : 0);
+    *word = w | m | (s->what & WRITE ? m << 8 : 0);
     if (address == s->to && address % 4096)
         s->to += size;
     else if (address + size == s->from && s->from % 4096)
-        s->from = address;
+        lengthen_down(s, address);
     else
         begin_run(s, address, RETURN_ADDRESS);
 }

@@ -15,7 +15,7 @@ void set_mirrors(void)
     top = &frames[depth];
     cilkrec_spawning = frames[depth].spawning;
     cilkrec_base = frames[depth].base;
-    cilkrec_special = top->tail + reducers_at_hand();
+    cilkrec_special = top->tail + reducers_at_hand() + is_looking + is_all_written;
 }
 
 static uintptr_t span_of(int i) { return i == 0 ? UINTPTR_MAX : frames[i - 1].span; }
@@ -67,38 +67,28 @@ static void set_serial(void)
     frames[depth].span = span = span_of(depth);
 }
 
-/* Ends the current frame but for its last line, which depends on what it was. */
-static struct frame pop(void)
-{
-    enum { RED_ZONE = 128 };
-
-    retire_locals();
-    struct frame f = frames[depth];
-    passed_by_exceptions += f.spawning;
-    if (f.tail)
-        put_spawned();
-    if (f.parallel)
-        put_sync();
-    depth--;
-    span = frames[depth].span;
-    set_mirrors();
-    if (f.kept && f.own_stack && span != UINTPTR_MAX)
-        put_cells(CLEAR, f.low - RED_ZONE, f.top - f.low + RED_ZONE, 0);
-    return f;
-}
-
 /* Ends a function's frame, or what an exception left of one. */
 void end_frame(void)
 {
-    struct frame f = pop();
+    enum { RED_ZONE = 128 };
+    const struct frame *f = &frames[depth];
 
-    if (f.candidate) {
-        frames[depth].tail = true;
-        set_mirrors();
-    }
-    else if (f.spawned)
+    retire_locals();
+    passed_by_exceptions += f->spawning;
+    if (f->tail)
         put_spawned();
-    else if (f.written)
+    if (f->parallel)
+        put_sync();
+    depth--;
+    span = frames[depth].span;
+    if (f->candidate)
+        frames[depth].tail = true;
+    set_mirrors();
+    if (f->kept && f->own_stack && span != UINTPTR_MAX)
+        clear_stack(f->low - RED_ZONE, f->top);
+    if (!f->candidate && f->spawned)
+        put_spawned();
+    else if (!f->candidate && f->written)
         put_called();
 }
 
@@ -129,7 +119,7 @@ static void end_spawn(void)
     if (f->tail)
         put_spawned();
     if (f->shared_low)
-        put_cells(CLEAR, f->shared_low, f->mark - f->shared_low, 0);
+        clear_stack(f->shared_low, f->mark);
     if (f->shared_low)
         set_parallel_from(f->mark);
     f->shared_low = 0;
@@ -227,22 +217,31 @@ void cilkrec_sync(void)
 
 /* ---- Functions. */
 
-void __cyg_profile_func_enter(void *function, void *call_site)
+/* A function began while a spawn's statement runs: the spawned one, a call in its arguments, or one that follows it. */
+static void begin_function(uintptr_t base, uintptr_t function, const void *call_site)
 {
-    uintptr_t base = (uintptr_t)__builtin_frame_address(1), top = base + 16;
-    if (likely(!cilkrec_spawning && base < cilkrec_base) || !recording)
-        return;
-    unwind_below(base + 1);
+    uintptr_t top = base + 16;
     struct frame *parent = &frames[depth];
+
     if (!parent->spawning)
         return;
-    if (parent->tail && follows_spawned_call((uintptr_t)function)) {
-        push(base, top, (uintptr_t)function); /* so that what it calls is no candidate */
+    if (parent->tail && follows_spawned_call(function)) {
+        push(base, top, function); /* so that what it calls is no candidate */
         return;
     }
     begin_candidate(site_before(call_site));
-    struct frame *f = push(base, parent->mark > top ? parent->mark : top, (uintptr_t)function);
+    struct frame *f = push(base, parent->mark > top ? parent->mark : top, function);
     f->written = f->candidate = true;
+}
+
+void __cyg_profile_func_enter(void *function, void *call_site)
+{
+    uintptr_t base = (uintptr_t)__builtin_frame_address(1);
+
+    if (likely(!cilkrec_spawning && base < cilkrec_base) || !recording)
+        return;
+    unwind_below(base + 1);
+    begin_function(base, (uintptr_t)function, call_site);
 }
 
 void __cyg_profile_func_exit(void *function, void *call_site)
@@ -258,6 +257,35 @@ void __cyg_profile_func_exit(void *function, void *call_site)
     while (frames[depth].scope)
         end_frame();
     end_frame();
+}
+
+/* The same of a function that gcc put into another one: their frame pointer is one. It has a frame only where it is
+   spawned. */
+void cilkrec_inlined_enter(void *function, void *call_site)
+{
+    uintptr_t base = (uintptr_t)__builtin_frame_address(1);
+
+    (void)call_site; /* that of the other one */
+    if (likely(!cilkrec_spawning) || !recording)
+        return;
+    unwind_below(base);
+    begin_function(base, (uintptr_t)function, RETURN_ADDRESS);
+}
+
+void cilkrec_inlined_exit(void *function, void *call_site)
+{
+    uintptr_t base = (uintptr_t)__builtin_frame_address(1);
+
+    (void)call_site;
+    if (likely(base < cilkrec_base) || !recording)
+        return;
+    unwind_below(base);
+    while (depth > 0 && frames[depth].base == base && frames[depth].function == (uintptr_t)function) {
+        bool is_scope = frames[depth].scope;
+        end_frame();
+        if (!is_scope)
+            return;
+    }
 }
 
 int cilkrec_scope_begin(void)

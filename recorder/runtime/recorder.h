@@ -33,6 +33,9 @@
 /* On x86-64 the caller's frame ends 16 bytes above its frame pointer: the saved pointer and the return address. */
 #define END_OF_FRAME(level) ((uintptr_t)__builtin_frame_address(level) + 16)
 
+/* All that this file declares is the runtime's own, so it is reached directly, also with -fPIC. */
+#pragma GCC visibility push(hidden)
+
 extern char __executable_start[], etext[];
 
 #define span cilkrec_span
@@ -68,16 +71,19 @@ void put_sync(void);
 void put_end(void);
 void put_unseen(uint64_t site);
 void put_cells(enum kind kind, uintptr_t address, uint64_t size, uint64_t site);
+void clear_stack(uintptr_t low, uintptr_t high);
 
 /* A place of the text that accesses memory: one record for each, in the program's data (inline.py). */
 struct site {
-    uint64_t next_cell;
+    struct site *writer;         /* the place that writes what this one has just read, as in `x += 1` */
     uint32_t number, run_number; /* of its kinds of lines: one access, a run; 0: not declared yet */
     uintptr_t from, to;          /* the run at hand, not written yet: neighbours in one page */
     uint64_t what;               /* size << 8 | kind */
     uint64_t place;              /* 0: no run is at hand */
+    uint32_t first_number, first_count; /* of lines as long as its first run */
 };
 void begin_run(struct site *s, uintptr_t address, const void *return_address);
+void lengthen_down(struct site *s, uintptr_t address);
 
 /* The filter: a word for each eight bytes, at their address with bit 45 changed: the strand's number << 16, then the
    bytes that it wrote, then those that it read or wrote. */
@@ -135,7 +141,7 @@ extern uint64_t passed_by_exceptions;
 extern int cilkrec_spawning;      /* frames[depth].spawning and .base, for the code that inline.py puts in */
 extern uintptr_t cilkrec_base;
 extern struct frame *top;
-extern unsigned cilkrec_special; /* accesses need a closer look: reducers, or a spawned call has just ended */
+extern unsigned cilkrec_special; /* accesses need a closer look: reducers, a spawned call's end, a second run, no filter */
 unsigned reducers_at_hand(void);
 struct frame *ensure_frame(uintptr_t base, uintptr_t place);
 void set_mirrors(void);
@@ -171,5 +177,7 @@ void begin_to_look(const char *path);
 void end_of_look(void);
 void look_at_access(uintptr_t address, uintptr_t size, const void *return_address);
 void look_at_block(uintptr_t block, uintptr_t size, const void *return_address);
+
+#pragma GCC visibility pop
 
 #endif

@@ -102,20 +102,25 @@ void flush_buffer(void)
     fill = 0;
 }
 
-static inline void begin_event(void)
+/* Where the next event goes; end_event takes its end. */
+static inline char *begin_event(void)
 {
     if (unlikely(fill > CAPACITY - LONGEST_EVENT))
         flush_buffer();
     count.lines++;
+    return buffer + fill;
 }
 
-static inline void put_word(const char *word)
+static inline void end_event(const char *at) { fill = (size_t)(at - buffer); }
+
+static inline char *word(char *at, const char *text)
 {
-    while (*word)
-        buffer[fill++] = *word++;
+    while (*text)
+        *at++ = *text++;
+    return at;
 }
 
-static inline void put_decimal(uint64_t value)
+static inline char *decimal(char *at, uint64_t value)
 {
     char digits[20];
     int n = 0;
@@ -124,48 +129,61 @@ static inline void put_decimal(uint64_t value)
         digits[n++] = (char)('0' + value % 10);
     while (value /= 10);
     while (n)
-        buffer[fill++] = digits[--n];
+        *at++ = digits[--n];
+    return at;
 }
 
-static inline void put_leb128(uint64_t value)
+static inline char *leb128(char *at, uint64_t value)
 {
     for (; value >= 128; value >>= 7)
-        buffer[fill++] = (char)(value | 128);
-    buffer[fill++] = (char)value;
+        *at++ = (char)(value | 128);
+    *at++ = (char)value;
+    return at;
 }
 
-/* An event of one word and at most two numbers, of which binary tells the word by `tag`. */
-static void put_mark(const char *word, unsigned tag)
+/* A new strand begins. */
+static inline void begin_strand(void)
 {
     put_runs();
     forget_strand();
     strand++;
     segment++;
-    begin_event();
-    if (binary) {
-        put_leb128(tag);
+}
+
+/* An event of one word, of which binary tells the word by `tag`. */
+static inline void put_mark(const char *text, char tag)
+{
+    begin_strand();
+    char *at = begin_event();
+    if (likely(binary)) {
+        *at++ = tag;
     } else {
-        put_word(word);
-        buffer[fill++] = '\n';
+        at = word(at, text);
+        *at++ = '\n';
     }
+    end_event(at);
+}
+
+/* An event of a word and a site. */
+static inline void put_at_site(const char *text, char tag, uint64_t site)
+{
+    char *at = begin_event();
+
+    if (likely(binary)) {
+        *at++ = tag;
+        at = leb128(at, site);
+    } else {
+        at = decimal(word(at, text), site);
+        *at++ = '\n';
+    }
+    end_event(at);
 }
 
 void put_enter(uint64_t site)
 {
-    put_runs();
-    forget_strand();
-    strand++;
-    segment++;
+    begin_strand();
     count.frames++;
-    begin_event();
-    if (binary) {
-        put_leb128(1);
-        put_leb128(site);
-    } else {
-        put_word("enter ");
-        put_decimal(site);
-        buffer[fill++] = '\n';
-    }
+    put_at_site("enter ", 1, site);
 }
 
 void put_spawned(void) { put_mark("spawned", 2); }
@@ -174,18 +192,7 @@ void put_sync(void) { put_mark("sync", 4); }
 void put_end(void) { put_mark("end", 5); }
 
 /* A call of a library that isn't recorded was made here, while something was parallel. */
-void put_unseen(uint64_t site)
-{
-    begin_event();
-    if (binary) {
-        put_leb128(7);
-        put_leb128(site);
-    } else {
-        put_word("unseen ");
-        put_decimal(site);
-        buffer[fill++] = '\n';
-    }
-}
+void put_unseen(uint64_t site) { put_at_site("unseen ", 7, site); }
 
 void put_reducer(enum reducer_event event, uint32_t reducer, uint64_t site)
 {
@@ -193,19 +200,17 @@ void put_reducer(enum reducer_event event, uint32_t reducer, uint64_t site)
 
     if (event == CREATE || event == RETIRE) /* what was one kind of memory is another one */
         forget_strand();
-    begin_event();
+    char *at = begin_event();
     if (binary) {
-        put_leb128(6);
-        put_leb128(event);
-        put_leb128(reducer);
-        put_leb128(site);
+        *at++ = 6;
+        at = leb128(leb128(leb128(at, event), reducer), site);
     } else {
-        put_word(words[event]);
-        put_decimal(reducer);
-        buffer[fill++] = ' ';
-        put_decimal(site);
-        buffer[fill++] = '\n';
+        at = decimal(word(at, words[event]), reducer);
+        *at++ = ' ';
+        at = decimal(at, site);
+        *at++ = '\n';
     }
+    end_event(at);
 }
 
 /* ---- Cells: bytes, numbered by 4 KB pages in the order of first use, so that they are small and dense. */
@@ -246,7 +251,7 @@ static struct line_kind *line_kinds;
 static uint32_t line_kind_count;
 static uint64_t last_cell, next_cells[8 + MOST_LINE_KINDS];
 
-static void put_binary_access(enum kind kind, uint64_t cell, uint64_t n, uint64_t site)
+static char *binary_access(char *at, enum kind kind, uint64_t cell, uint64_t n, uint64_t site)
 {
     uint64_t fixed = n <= SHORT_COUNT ? n : 0, key = ((site << 5 | fixed) << 2 | kind) + 1;
     size_t mask = ((size_t)1 << LINE_TABLE_BITS) - 1;
@@ -258,30 +263,49 @@ static void put_binary_access(enum kind kind, uint64_t cell, uint64_t n, uint64_
     if (unlikely(!line->key)) {
         if (line_kind_count == MOST_LINE_KINDS) {
             give_up("more than %d places access memory", MOST_LINE_KINDS);
-            return;
+            return at;
         }
         line->key = key;
         line->number = line_kind_count++;
         line->next_cell = last_cell;
-        put_leb128(0);
-        put_leb128(kind);
-        put_leb128(fixed);
-        put_leb128(site);
+        *at++ = 0;
+        at = leb128(leb128(leb128(at, kind), fixed), site);
     }
     int64_t moved = (int64_t)(cell - line->next_cell);
-    put_leb128(8 + line->number);
-    put_leb128((uint64_t)moved << 1 ^ (uint64_t)(moved >> 63));
+    at = leb128(leb128(at, 8 + line->number), (uint64_t)moved << 1 ^ (uint64_t)(moved >> 63));
     if (!fixed)
-        put_leb128(n);
+        at = leb128(at, n);
     line->next_cell = cell + n;
     last_cell = cell;
+    return at;
+}
+
+/* No cell of the stack below this address was accessed since it was cleared. */
+static uintptr_t lowest_told = UINTPTR_MAX;
+
+static inline void note_told(uintptr_t address)
+{
+    if (address < lowest_told && address - stack_low < stack_bytes)
+        lowest_told = address;
+}
+
+/* A part of the stack has ended. Where the trace names none of its cells there is nothing to forget. */
+void clear_stack(uintptr_t low, uintptr_t high)
+{
+    if (lowest_told >= high)
+        return;
+    put_cells(CLEAR, low, high - low, 0);
+    if (lowest_told >= low)
+        lowest_told = high;
 }
 
 void put_cells(enum kind kind, uintptr_t address, uint64_t size, uint64_t site)
 {
     static const char *const words[] = {"read ", "write ", "clear "};
 
-    if (kind == CLEAR) {
+    if (kind != CLEAR) {
+        note_told(address);
+    } else {
         put_runs();
         if (size > 1 << 14 || address - stack_low < stack_bytes) /* forget all that the strand did: cheaper */
             forget_strand();
@@ -294,64 +318,78 @@ void put_cells(enum kind kind, uintptr_t address, uint64_t size, uint64_t site)
     while (size && recording) {
         uint64_t in_page = (1 << PAGE_BITS) - (address & ((1 << PAGE_BITS) - 1)), n = size < in_page ? size : in_page;
         uint64_t cell = (uint64_t)page_number(address >> PAGE_BITS) << PAGE_BITS | (address & ((1 << PAGE_BITS) - 1));
-        begin_event();
+        char *at = begin_event();
         segment += kind == CLEAR;
-        if (binary) {
-            put_binary_access(kind, cell, n, site);
+        if (likely(binary)) {
+            at = binary_access(at, kind, cell, n, site);
         } else {
-            put_word(words[kind]);
-            put_decimal(cell);
-            buffer[fill++] = ' ';
-            put_decimal(n);
+            at = decimal(word(at, words[kind]), cell);
+            *at++ = ' ';
+            at = decimal(at, n);
             if (kind != CLEAR) {
-                buffer[fill++] = ' ';
-                put_decimal(site);
+                *at++ = ' ';
+                at = decimal(at, site);
             }
-            buffer[fill++] = '\n';
+            *at++ = '\n';
         }
+        end_event(at);
         address += n;
         size -= n;
     }
 }
 
 /* Runs: accesses of one place to neighbours, in one strand, are one line. What a strand did between two lines of structure
-   or `clear` is a set: it is written in any order. */
+   or `clear` is a set: it is written in any order, and what it reads and then writes as a write alone. */
 enum { MOST_RUNS = 1 << 12 };
-static struct site *runs[MOST_RUNS];
+static struct site *runs[MOST_RUNS], *last_read;
 static unsigned run_count;
+
+/* The kind of line for so many bytes: of one access, of as many as the first run had, or of any number. */
+static uint32_t *line_number(struct site *s, uint64_t n, uint64_t *declared)
+{
+    *declared = n;
+    if (n == s->what >> 8)
+        return &s->number;
+    if (!s->first_count)
+        s->first_count = (uint32_t)n;
+    if (n == s->first_count)
+        return &s->first_number;
+    *declared = 0;
+    return &s->run_number;
+}
 
 static void put_run(struct site *s)
 {
-    uint64_t n = s->to - s->from;
-    bool one = n == s->what >> 8;
-    uint32_t *number = one ? &s->number : &s->run_number;
+    uint64_t n = s->to - s->from, declared;
+    const struct site *w = s->writer;
 
+    if (w && w->place && n > s->what >> 8 && w->from <= s->from && s->to <= w->to)
+        return;
     if (unlikely(!binary)) {
         put_cells((enum kind)(s->what & 1), s->from, n, s->place);
         return;
     }
+    uint32_t *number = line_number(s, n, &declared);
     if (unlikely(!*number && line_kind_count == MOST_LINE_KINDS)) {
         if (recording)
             give_up("more than %d places access memory", MOST_LINE_KINDS);
         return;
     }
     uint64_t cell = (uint64_t)page_number(s->from >> PAGE_BITS) << PAGE_BITS | (s->from & ((1 << PAGE_BITS) - 1));
-    begin_event();
+    char *at = begin_event();
     if (unlikely(!*number)) {
         *number = 8 + line_kind_count++;
-        put_leb128(0);
-        put_leb128(s->what & 1);
-        put_leb128(one ? n : 0);
-        put_leb128(s->place);
+        *at++ = 0;
+        at = leb128(leb128(leb128(at, s->what & 1), declared), s->place);
         next_cells[*number] = last_cell;
     }
     int64_t moved = (int64_t)(cell - next_cells[*number]);
-    put_leb128(*number);
-    put_leb128((uint64_t)moved << 1 ^ (uint64_t)(moved >> 63));
-    if (!one)
-        put_leb128(n);
+    at = leb128(leb128(at, *number), (uint64_t)moved << 1 ^ (uint64_t)(moved >> 63));
+    if (!declared)
+        at = leb128(at, n);
     next_cells[*number] = cell + n;
     last_cell = cell;
+    end_event(at);
 }
 
 static void put_all_runs(void)
@@ -369,6 +407,12 @@ static inline void put_runs(void)
         put_all_runs();
 }
 
+void lengthen_down(struct site *s, uintptr_t address)
+{
+    s->from = address;
+    note_told(address);
+}
+
 /* An access that isn't next to its place's run. */
 void begin_run(struct site *s, uintptr_t address, const void *return_address)
 {
@@ -383,6 +427,10 @@ void begin_run(struct site *s, uintptr_t address, const void *return_address)
     }
     s->from = address;
     s->to = address + (s->what >> 8);
+    if (s->what & WRITE && last_read && last_read->from == address)
+        last_read->writer = s;
+    last_read = s->what & WRITE ? NULL : s;
+    note_told(address);
 }
 
 /* ---- The filter's words: for all addresses with bit 45 clear below 2^45, of a program that can be anywhere (0x55.., 0x56..),
@@ -436,8 +484,7 @@ bool open_trace(const char *path, bool as_binary)
     buffer = zeroed(CAPACITY);
     page_table = zeroed(sizeof *page_table << PAGE_TABLE_BITS);
     line_kinds = zeroed(sizeof *line_kinds << LINE_TABLE_BITS);
-    put_word(binary ? "cilktrace-bin 1\n" : "cilktrace 1\n");
-    count.lines = 1;
+    end_event(word(begin_event(), binary ? "cilktrace-bin 1\n" : "cilktrace 1\n"));
     return true;
 }
 

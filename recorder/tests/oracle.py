@@ -4,10 +4,11 @@
 oracle.py TRACE [SITES], or TRACE [--sites SITES] [--explain]
 
 `race-free`, or with `, but N calls weren't recorded`; or `race P Q`: Q is the least position of an access that an
-earlier one races with. Of all that Q races with, P is of the strand that comes last where parallel strands are taken
-in reverse (of greatest Hebrew number), and there the first. Or `view-read race P Q` of a reducer, where there is no
-race of accesses. With a table of sites both are shown by file, line and function. It compares each access with all
-earlier ones of its cells, by the place at which the paths of their strands part, so it is quadratic.
+earlier one races with. Of all that race with Q on the least of its cells with a race, P is of the strand that comes
+last where parallel strands are taken in reverse (of greatest Hebrew number), and there the first. Or `view-read race
+P Q` of a reducer, where there is no race of accesses. With a table of sites both are shown by file, line and function.
+It compares each access with all earlier ones of its cells, by the place at which the paths of their strands part, so
+it is quadratic.
 
 The path of a strand has for each open frame its number, its block (how many syncs it has made) and the item in the
 block. A strand that comes later in the run is parallel to an earlier one where their paths part in one block, and the
@@ -104,9 +105,9 @@ def race_of_accesses(trace, strands):
             for (strand, wrote), position in earlier.items():
                 if (writes or wrote) and strand != here and strands.parallel(strand, here):
                     racing.append((strand, position))
+            if racing:
+                return strands.last_of(racing), k + 2
             earlier.setdefault((here, writes), k + 2)
-        if racing:
-            return strands.last_of(racing), k + 2
     return None
 
 

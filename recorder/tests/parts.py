@@ -456,6 +456,9 @@ def build():
     for compilers in (("gcc", "g++"), ("clang", "clang++"), ("gcc", "clang++")):
         for spread, want in ((0, "race-free"), (1, "race")):
             yield f"Makefile {'+'.join(compilers)} {want}", made, (compilers, spread, want)
+    for compiler in ("gcc", "clang"):
+        path = os.path.join(HERE, "c", "names_free.c")
+        yield f"names in common {compiler}", judged, (compiler, "race-free", path, "-fcommon")
     yield "several sources", several, ()
     yield "foreign object", foreign, ()
     yield "no CILK_TRACE", unrecorded, ()
@@ -476,8 +479,8 @@ def refused():
         with open(path, encoding="utf-8") as f:
             want = f.readline()[3:].strip().replace("cilkrec: ", "", 1)
         for compiler in ("g++", "clang++") if path.endswith(".cpp") else ("gcc", "clang"):
-            if os.path.basename(path) == "nested.c" and compiler == "clang":
-                continue  # it has no such functions
+            if os.path.basename(path) == {"gcc": "spawned.c", "clang": "nested.c"}.get(compiler):
+                continue  # gcc records such spawns; clang has no such functions
             yield f"{os.path.basename(path)} {compiler}", is_refused, (compiler, path, want)
 
 

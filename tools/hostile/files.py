@@ -208,9 +208,8 @@ def changing(room, found):
 
 
 def exchanged(room, found):
-    """A trace that becomes another one between two readings is told as changed, or judged as one of the two."""
+    """A trace that becomes another one while it is read is judged as one of the two."""
     stop, answers = threading.Event(), {shown: kind for kind, shown in rows.JUDGED.items()}
-    answers[Shown(2, b"", b"changed moving\n")] = "changed"
 
     def exchange():
         while not stop.is_set():
@@ -221,9 +220,7 @@ def exchanged(room, found):
     worker, seen = threading.Thread(target=exchange, daemon=True), set()
     worker.start()
     try:
-        for n in range(6000):
-            if n >= 400 and "changed" in seen:
-                break
+        for _ in range(400):
             shown = room.run("judge", "moving")
             found.must(shown in answers, "a trace that changes", shown)
             seen.add(answers.get(shown))
@@ -231,7 +228,7 @@ def exchanged(room, found):
     finally:
         stop.set()
         worker.join()
-    found.must("changed" in seen, "no trace was told as changed")
+    found.must(len(seen) > 1, "the trace never changed")
 
 
 def growing(room, found):

@@ -23,6 +23,7 @@ FORMS = {
     "scripts": (
         "play P S --workers N", "play P S --workers N --trace", "play P S --workers N --explain",
         "play P S --workers N --trace --explain", "play P S --workers N --explain --color",
+        "play P S --workers N --strict", "play P S --workers N --strict --explain",
     ),
     "programs": (
         "< P", "run P --explain", "certify P --explain", "settle P", "settle P --color", "settle P --why N", "settle P --short",

@@ -267,7 +267,8 @@ def fair_of_script(form, name, script, workers):
     if bad:
         return forms.fair(form, Shown(2, b"", b"script at %d\n" % bad))
     fair = forms.fair(form, rows.OUTCOMES[name], Shown(0, b"not ended\n", b""))
-    return lambda seen: fair(seen) or seen.status == 2 and seen.err.startswith(b"script at ")
+    unmade = (3, b"choice at ") if "--strict" in form else None
+    return lambda seen: fair(seen) or seen.status == 2 and seen.err.startswith(b"script at ") or (seen.status, seen.err[:10]) == unmade
 
 
 def scripts(room, found, seed, numbers):

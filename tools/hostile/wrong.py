@@ -103,9 +103,9 @@ WRONG = [
         'if status == 5: status, out, err = 0, b"race-free\\n", b""',
     ),
     (
-        "a trace that changed is called malformed",
+        "a race of a trace that changes is one of views",
         "files: a trace that changes",
-        'if err.startswith(b"changed "): err = b"trace 301 at 2\\n"',
+        'out = out.replace(b"refused 311", b"refused 312")',
     ),
     (
         "a table is cut short for want of memory",

@@ -9,6 +9,7 @@
 //! | `views`, `joins` | products that give both sides back where a view may not grow; the pieces that a join keeps |
 //! | `strands` | the parallel strands of a worked program |
 //! | `calls` | texts of certificates in memory, products of views, runs shown by frames and by the order of events |
+//! | `scripts` | scripts whose choices can't all be made: the first one, why, and how many |
 //! | `settled`, `chance` | each program of `examples/` by 200 pseudo-random schedules |
 //! | `refused` | runs that may be out of memory at any allocation |
 //!
@@ -37,6 +38,8 @@ mod joins;
 mod playing;
 #[cfg(test)]
 mod refused;
+#[cfg(test)]
+mod scripts;
 #[cfg(test)]
 mod settled;
 #[cfg(test)]

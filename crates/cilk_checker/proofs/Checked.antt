@@ -137,5 +137,7 @@ code_at p inputs end o frames code es is ends =
     let left : EndsWith p inputs (Left o frames code) es = subst (λ (e : End). EndsWith p inputs e es) is ends in
     left.2
 
-pub stops_at : (p : Source) (inputs : List ℤ) (end : End) (f : Fault) (es es' : List Event) → end ≡ Stopped f → EndsWith p inputs end es → es' ≡ es → StopsAfter p inputs es' f
-stops_at p inputs end f es es' is ends same = subst (λ (l : List Event). StopsAfter p inputs l f) (sym same) (subst (λ (e : End). EndsWith p inputs e es) is ends)
+pub stops_at : (p : Source) (inputs : List ℤ) (end : End) (f : Fault) (frames : Vec PlannedFrame Global) (code : CodeView) (es es' : List Event) → end ≡ Stopped f frames code → EndsWith p inputs end es → es' ≡ es → StopsAfter p inputs es' f
+stops_at p inputs end f frames code es es' is ends same =
+    let stopped : EndsWith p inputs (Stopped f frames code) es = subst (λ (e : End). EndsWith p inputs e es) is ends in
+    subst (λ (l : List Event). StopsAfter p inputs l f) (sym same) stopped.0

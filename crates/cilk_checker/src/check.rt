@@ -77,7 +77,7 @@ pub fn check_end<S: Source>(
     ensures kept { S.kept source.new ≡ S.kept source.old }
 {
     match end {
-        End::Stopped(_) => {
+        End::Stopped(_, _, _) => {
             let right = events_of(alloc, trace)?;
             let refusal = stopped(alloc, &right, source)?;
             Err(Unaccepted::Refusal(refusal))

@@ -24,8 +24,9 @@ pub enum End {
     /// Without a fault: its outcome, its frames in the order of their numbers, and the program's
     /// code.
     Left(Outcome, Vec<PlannedFrame>, Code),
-    /// By this fault, in place of the next event.
-    Stopped(Fault),
+    /// By this fault, in place of the next event: with the frames that have begun, of which nothing is
+    /// proved, and the program's code.
+    Stopped(Fault, Vec<PlannedFrame>, Code),
 }
 
 /// Runs a program serially and returns how the run ends, with its events.
@@ -74,7 +75,10 @@ pub fn run_code(
                 let (outcome, trace) = serial.finish()?;
                 return Ok((End::Left(outcome, frames, code), trace));
             }
-            Next::Stops(fault) => return Ok((End::Stopped(fault), serial.into_trace())),
+            Next::Stops(fault) => {
+                let trace = serial.into_trace();
+                return Ok((End::Stopped(fault, frames, code), trace));
+            }
         }
     }
 }

@@ -14,6 +14,7 @@
 ghost use Rattle.std.specs.Prelude.{◌≡◌, ◌+◌, ℤ, List, IfOk, MatchOption, length};
 ghost use Rattle.cilk_program.specs.Sources.{source};
 ghost use Rattle.cilk_program.specs.Syntax.{Source};
+ghost use Rattle.cilk_lower.specs.Lowered.{IsLowered};
 ghost use Rattle.cilk_oblivious.specs.Cursors.{hidden_of};
 ghost use Rattle.cilk_checker.specs.Every.{IsFoundIn, IsVerdictOnEvery};
 ghost use Rattle.cilk_checker.specs.Runs.{EndsWith};
@@ -22,7 +23,7 @@ ghost use Rattle.cilk_checker.specs.declared.every.Finding.TheVariants as findin
 use crate::ending::{End, run_to_end};
 use crate::settle::{FirstRace, race_of};
 use cilk_determinacy::words::{inputs_are_words, programs_are_of_words};
-use cilk_lower::lower::lower;
+use cilk_lower::code::Code;
 use cilk_oblivious::run::is_oblivious;
 use cilk_program::program::Program;
 use cilk_types::event::Pos;
@@ -68,11 +69,25 @@ pub fn settle_every(
 ) -> Result<Every, AllocError>
     ensures { IfOk result (λ e. IsVerdictOnEvery (source program.now) input.now (hidden_of hidden.now) e) }
 {
+    let (ending, trace) = run_to_end(alloc, program, input)?;
+    settle_ended(alloc, program, input, ending, &trace, hidden)
+}
+
+/// The same, for a serial run that has ended so, with these events.
+pub fn settle_ended(
+    alloc: Global,
+    program: &Program,
+    input: &Input,
+    ending: End,
+    trace: &Trace,
+    hidden: &[bool],
+) -> Result<Every, AllocError>
+    requires { EndsWith (source program.now) input.now ending trace.now }
+    ensures { IfOk result (λ e. IsVerdictOnEvery (source program.now) input.now (hidden_of hidden.now) e) }
+{
     programs_are_of_words(program);
     inputs_are_words(input);
-    let (ending, trace) = run_to_end(alloc, program, input)?;
-    let finding = found(alloc, ending, &trace)?;
-    let code = lower(alloc, program)?;
+    let (finding, code) = found(alloc, ending, trace)?;
     let is_on_every = is_oblivious(alloc, program, &code, input, trace.as_slice(), hidden)?;
     Ok(Every {
         finding,
@@ -80,18 +95,18 @@ pub fn settle_every(
     })
 }
 
-// What a serial run tells that ends so.
-fn found(alloc: Global, ending: End, trace: &Trace) -> Result<Finding, AllocError>
-    ensures { (p : Source) (inputs : List ℤ) → EndsWith p inputs ending trace.now → IfOk result (λ f. IsFoundIn p inputs trace.now f) }
+// What a serial run tells that ends so, and the program's code.
+fn found(alloc: Global, ending: End, trace: &Trace) -> Result<(Finding, Code), AllocError>
+    ensures { (p : Source) (inputs : List ℤ) → EndsWith p inputs ending trace.now → IfOk result (λ f. IsFoundIn p inputs trace.now f.0 × IsLowered p f.1) }
 {
     match ending {
-        End::Left(outcome, _frames, _code) => {
+        End::Left(outcome, _frames, code) => {
             let race = race_of(alloc, trace)?;
-            Ok(judged(outcome, race))
+            Ok((judged(outcome, race), code))
         }
-        End::Stopped(fault) => {
+        End::Stopped(fault, _frames, code) => {
             let at = position_after(trace);
-            Ok(Finding::Fault { fault, at })
+            Ok((Finding::Fault { fault, at }, code))
         }
     }
 }

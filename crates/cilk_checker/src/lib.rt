@@ -24,6 +24,7 @@
 //! | [`ending::run_code`] | the same, with the code that the program was compiled to |
 //! | [`settle::settle`] | without a certificate: the outcome of every parallel run, or the first race |
 //! | [`every::settle_every`] | the same, and whether it holds on every input with other hidden numbers |
+//! | [`every::settle_ended`] | the same for a serial run that is already made |
 //! | [`laws::texts_have_one_verdict`] | three texts have at most one verdict |
 //! | [`laws::accepted_runs_have_consistent_cuts`] | each state of an accepted run is such a cut |
 //!

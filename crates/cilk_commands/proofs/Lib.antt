@@ -10,9 +10,9 @@ pub mod Reading
 pub mod Replying
 pub mod TraceBeginnings
 pub mod TraceCuts
+pub mod TraceJudged
 pub mod TraceReplies
 pub mod TraceReread
-pub mod TraceSurveyed
 pub mod Unread
 pub mod Workers
 pub mod Writing

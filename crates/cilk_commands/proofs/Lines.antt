@@ -1,6 +1,6 @@
 -- Texts that grow by one piece at a time.
 use Rattle.std.proofs.Common.{◌≡◌, ℕ, zero, suc, ◌+◌, ◌<◌, List, [], ◌∷◌, ◌++◌, length, take, get_or, sym, ap, ap₂, inl, inr, ◌⊎◌, ◌∙◌, add-one, append_assoc, arith}
-use Rattle.std.specs.Prelude.{flat_map}
+use Rattle.std.specs.Prelude.{Result, Ok, Err, OnOk, flat_map, if◌then◌else◌, is_ok}
 use Rattle.cilk_types.specs.declared.outcome.Final.{Final}
 use Rattle.cilk_commands.specs.Replies.{Text, reducer_line, reducer_lines}
 use Rattle.std.proofs.lemmas.List.{append-nil}
@@ -31,3 +31,14 @@ pub reducer_end : (ks : List Text) (vs : List Final) (text all : Text) → (leng
 reducer_end [] vs text all e h = sym (append-nil text) ∙ h
 reducer_end (k ∷ ks) [] text all e h = sym (append-nil text) ∙ h
 reducer_end (k ∷ ks) (v ∷ vs) text all e h = elim e [ inl i ↦ absurd (omega (arith, i)) | inr i ↦ absurd (omega (arith, i)) ]
+
+-- what was added behind a front, after the front was
+pub on_more : {A E : Type 0} (x : Result A E) (new front old added more : List ℕ) → OnOk x (new ≡ front ++ more) → front ≡ old ++ added
+    → OnOk x (new ≡ old ++ (added ++ more))
+on_more (Ok a) new front old added more h e = h ∙ ap (λ z. z ++ more) e ∙ append_assoc old added more
+on_more (Err e) new front old added more h k = tt
+
+-- what stands there if nothing failed
+pub when_ok : {A E : Type 0} (x : Result A E) (new old wanted : List ℕ) → new ≡ (if is_ok x then wanted else old) → OnOk x (new ≡ wanted)
+when_ok (Ok a) new old wanted e = e
+when_ok (Err e) new old wanted h = tt

@@ -1,20 +1,25 @@
 -- A program, an input and a script's text show one reply.
 --
--- - `one_stop`, `steps_once`: the steps of a script show one reply;
+-- - `steps_once`, `strictly_once`: the steps of a script show one reply;
 -- - `texts_once`: so does its text;
 -- - `plays_once`: so does the command `play`.
-use Rattle.std.proofs.Common.{◌≡◌, ℕ, ℤ, List, Option, Some, None, inl, inr, refl, sym, ap, ap₂, ◌∙◌, subst}
+use Rattle.std.proofs.Common.{◌≡◌, ◌⊎◌, ℕ, ℤ, Bool, true, false, List, Option, Some, None, inl, inr, refl, sym, ap, ap₂, ◌∙◌, subst}
 use Rattle.std.specs.Prelude.{IsSome}
 use Rattle.cilk_types.specs.Fault as faults
 use Rattle.cilk_checker.specs.Judging.{Meant}
 use Rattle.cilk_parser.proofs.OneScript.{script_is_one}
 use Rattle.cilk_parser.specs.declared.script.Step.{Step}
 use Rattle.cilk_schedule.proofs.OneEnd.{one_left, one_line, one_stop, left_or_past, left_or_stopped, stopped_or_past}
+use Rattle.cilk_schedule.proofs.OneSkip.{skips_are_one}
+use Rattle.cilk_schedule.specs.Strict.{IsFirstSkip, IsStrict, SkipsAreOne, tasks_within}
+use Rattle.cilk_schedule.specs.declared.unmade.Skip.{Skip}
+use Rattle.cilk_parser.specs.declared.script_choices.TheConstants.{MAX_CHOICES}
 use Rattle.cilk_commands.specs.Files.{Failures, IsHeld}
 use Rattle.cilk_commands.specs.OneReply.{IsOfTexts}
 use Rattle.cilk_commands.specs.Replies as replies
 use Rattle.cilk_commands.specs.Replies.{Accepted, BadInput, BadProgram, BadScript, BadWords, Certified, Ended, Faulted, FaultedIn, NoMemory, NotEnded, Refused, Reply, Text, Unreadable}
-use Rattle.cilk_commands.specs.Shown.{PlayShows, ScriptFails, StepsShow, TextShows}
+use Rattle.cilk_commands.specs.Shown.{MannerShows, PlayShows, PlayedShow, ScriptFails, StepsShow, StrictlyShow, TextShows}
+use Rattle.cilk_messages.specs.declared.words.Manner.{Manner}
 
 some_is : {A : Type 0} (x y : A) → Some x ≡ Some y → x ≡ y
 some_is x y e = cc
@@ -32,6 +37,7 @@ module _ (workers : ℕ) (steps : List Step) (m : Meant) (inputs : List ℤ) whe
   kind_of NotEnded v h = unended
   kind_of (BadScript at) v h = past at
   kind_of (FaultedIn number name) v h = stopped number name
+  kind_of (replies.Unmade skip) v h = absurd h
   kind_of NoMemory v h = absurd v
   kind_of (Unreadable name) v h = absurd v
   kind_of BadWords v h = absurd h
@@ -69,9 +75,33 @@ module _ (workers : ℕ) (steps : List Step) (m : Meant) (inputs : List ℤ) whe
   steps_once : (r q : Reply) → IsOfTexts r → IsOfTexts q → StepsShow workers steps m inputs r → StepsShow workers steps m inputs q → r ≡ q
   steps_once r q v u h k = by_kind r q (kind_of r v h) (kind_of q u k) h k
 
+  -- a reply to strict playing: the first choice that can't be made, or the reply to the steps
+  abbrev Strict : Reply → Type 0
+  Strict r = ((skip : Skip) × (r ≡ replies.Unmade skip) × IsFirstSkip m.source inputs workers (tasks_within MAX_CHOICES steps) skip)
+      ⊎ (StepsShow workers steps m inputs r × IsStrict m.source inputs workers steps)
+
+  strict_of : (r : Reply) → IsOfTexts r → StrictlyShow workers steps m inputs r → Strict r
+  strict_of (replies.Unmade skip) v h = inl (skip, refl, h)
+  strict_of NoMemory v h = absurd v
+  strict_of _ v h = inr h
+
+  strict_by : (r q : Reply) → IsOfTexts r → IsOfTexts q → Strict r → Strict q → r ≡ q
+  strict_by r q v u (inl h) (inl k) = h.1 ∙ ap replies.Unmade (skips.one workers (tasks_within MAX_CHOICES steps) k.0 h.0 k.2 h.2) ∙ sym k.1
+    where
+      skips : SkipsAreOne m.source inputs
+      skips = skips_are_one m.source inputs
+  strict_by r q v u (inl h) (inr k) = absurd ((skips_are_one m.source inputs).apart workers (tasks_within MAX_CHOICES steps) h.0 h.2 k.1)
+  strict_by r q v u (inr h) (inl k) = absurd ((skips_are_one m.source inputs).apart workers (tasks_within MAX_CHOICES steps) k.0 k.2 h.1)
+  strict_by r q v u (inr h) (inr k) = steps_once r q v u h.0 k.0
+
+  played_once : (is_strict : Bool) (r q : Reply) → IsOfTexts r → IsOfTexts q → PlayedShow is_strict workers steps m inputs r → PlayedShow is_strict workers steps m inputs q → r ≡ q
+  played_once true r q v u h k = strict_by r q v u (strict_of r v h) (strict_of q u k)
+  played_once false r q v u h k = steps_once r q v u h k
+
 -- the line at which a text is no script
 fails_at : (text : Text) (r : Reply) → IsOfTexts r → ScriptFails text r → (at : ℕ) × (r ≡ BadScript at) × ScriptFails text (BadScript at)
 fails_at text (BadScript at) v h = (at, refl, h)
+fails_at text (replies.Unmade skip) v h = absurd h
 fails_at text NoMemory v h = absurd v
 fails_at text (Unreadable name) v h = absurd v
 fails_at text BadWords v h = absurd h
@@ -89,44 +119,45 @@ fails_at text (replies.RaceFree n) v h = absurd h
 fails_at text (replies.BadTrace n at) v h = absurd h
 fails_at text (replies.Changed name) v h = absurd h
 
-texts_once : (workers : ℕ) (text : Text) (m : Meant) (inputs : List ℤ) (r q : Reply) → IsOfTexts r → IsOfTexts q → TextShows workers text m inputs r → TextShows workers text m inputs q → r ≡ q
-texts_once workers text m inputs r q v u (inl h) (inl k) =
+texts_once : (manner : Manner) (text : Text) (m : Meant) (inputs : List ℤ) (r q : Reply) → IsOfTexts r → IsOfTexts q → TextShows manner text m inputs r → TextShows manner text m inputs q → r ≡ q
+texts_once manner text m inputs r q v u (inl h) (inl k) =
     let a = fails_at text r v h in
     let b = fails_at text q u k in
     a.1 ∙ ap BadScript (script_is_one.lines text b.0 a.0 b.2 a.2) ∙ sym b.1
-texts_once workers text m inputs r q v u (inl h) (inr (steps, is, k)) = let a = fails_at text r v h in absurd (script_is_one.apart text steps a.0 is a.2)
-texts_once workers text m inputs r q v u (inr (steps, is, h)) (inl k) = let a = fails_at text q u k in absurd (script_is_one.apart text steps a.0 is a.2)
-texts_once workers text m inputs r q v u (inr (steps, is, h)) (inr (steps', is', k)) =
-    steps_once workers steps' m inputs r q v u (subst (λ z. StepsShow workers z m inputs r) (sym (script_is_one.steps text steps steps' is is')) h) k
+texts_once manner text m inputs r q v u (inl h) (inr (steps, is, k)) = let a = fails_at text r v h in absurd (script_is_one.apart text steps a.0 is a.2)
+texts_once manner text m inputs r q v u (inr (steps, is, h)) (inl k) = let a = fails_at text q u k in absurd (script_is_one.apart text steps a.0 is a.2)
+texts_once manner text m inputs r q v u (inr (steps, is, h)) (inr (steps', is', k)) =
+    played_once manner.workers steps' m inputs manner.is_strict r q v u (subst (λ z. MannerShows manner z m inputs r) (sym (script_is_one.steps text steps steps' is is')) h) k
 
 -- the text of a reply that is one of texts
-text_of : (path : Text) (known : Option Text) (failed failed' : Failures) (workers : ℕ) (m : Meant) (inputs : List ℤ) (r : Reply) → IsOfTexts r → PlayShows path known failed failed' workers m inputs r
-    → (text : Text) × IsHeld known text × TextShows workers text m inputs r
-text_of path known failed failed' workers m inputs (Unreadable name) v h = absurd v
-text_of path known failed failed' workers m inputs NoMemory v h = absurd v
-text_of path known failed failed' workers m inputs BadWords v h = h.1
-text_of path known failed failed' workers m inputs (BadProgram n p) v h = h.1
-text_of path known failed failed' workers m inputs (BadInput n p) v h = h.1
-text_of path known failed failed' workers m inputs (Faulted n p) v h = h.1
-text_of path known failed failed' workers m inputs (FaultedIn n name) v h = h.1
-text_of path known failed failed' workers m inputs (BadScript at) v h = h.1
-text_of path known failed failed' workers m inputs (Ended names o) v h = h.1
-text_of path known failed failed' workers m inputs (Certified c) v h = h.1
-text_of path known failed failed' workers m inputs Accepted v h = h.1
-text_of path known failed failed' workers m inputs (Refused n ps) v h = h.1
-text_of path known failed failed' workers m inputs NotEnded v h = h.1
-text_of path known failed failed' workers m inputs (replies.Settled names o) v h = h.1
-text_of path known failed failed' workers m inputs (replies.RaceFree n) v h = h.1
-text_of path known failed failed' workers m inputs (replies.BadTrace n at) v h = h.1
-text_of path known failed failed' workers m inputs (replies.Changed name) v h = h.1
+text_of : (path : Text) (known : Option Text) (failed failed' : Failures) (manner : Manner) (m : Meant) (inputs : List ℤ) (r : Reply) → IsOfTexts r → PlayShows path known failed failed' manner m inputs r
+    → (text : Text) × IsHeld known text × TextShows manner text m inputs r
+text_of path known failed failed' manner m inputs (Unreadable name) v h = absurd v
+text_of path known failed failed' manner m inputs NoMemory v h = absurd v
+text_of path known failed failed' manner m inputs BadWords v h = h.1
+text_of path known failed failed' manner m inputs (BadProgram n p) v h = h.1
+text_of path known failed failed' manner m inputs (BadInput n p) v h = h.1
+text_of path known failed failed' manner m inputs (Faulted n p) v h = h.1
+text_of path known failed failed' manner m inputs (FaultedIn n name) v h = h.1
+text_of path known failed failed' manner m inputs (BadScript at) v h = h.1
+text_of path known failed failed' manner m inputs (replies.Unmade skip) v h = h.1
+text_of path known failed failed' manner m inputs (Ended names o) v h = h.1
+text_of path known failed failed' manner m inputs (Certified c) v h = h.1
+text_of path known failed failed' manner m inputs Accepted v h = h.1
+text_of path known failed failed' manner m inputs (Refused n ps) v h = h.1
+text_of path known failed failed' manner m inputs NotEnded v h = h.1
+text_of path known failed failed' manner m inputs (replies.Settled names o) v h = h.1
+text_of path known failed failed' manner m inputs (replies.RaceFree n) v h = h.1
+text_of path known failed failed' manner m inputs (replies.BadTrace n at) v h = h.1
+text_of path known failed failed' manner m inputs (replies.Changed name) v h = h.1
 
 one_text : (known : Option Text) (x y : Text) → IsSome known → IsHeld known x → IsHeld known y → y ≡ x
 one_text None x y there h k = cc
 one_text (Some all) x y there h k = k ∙ sym h
 
-pub plays_once : (path : Text) (known : Option Text) (failed failed' : Failures) (workers : ℕ) (m : Meant) (inputs : List ℤ) → IsSome known → (r q : Reply) → IsOfTexts r → IsOfTexts q
-    → PlayShows path known failed failed' workers m inputs r → PlayShows path known failed failed' workers m inputs q → r ≡ q
-plays_once path known failed failed' workers m inputs there r q v u h k =
-    let a = text_of path known failed failed' workers m inputs r v h in
-    let b = text_of path known failed failed' workers m inputs q u k in
-    texts_once workers b.0 m inputs r q v u (subst (λ z. TextShows workers z m inputs r) (sym (one_text known a.0 b.0 there a.1 b.1)) a.2) b.2
+pub plays_once : (path : Text) (known : Option Text) (failed failed' : Failures) (manner : Manner) (m : Meant) (inputs : List ℤ) → IsSome known → (r q : Reply) → IsOfTexts r → IsOfTexts q
+    → PlayShows path known failed failed' manner m inputs r → PlayShows path known failed failed' manner m inputs q → r ≡ q
+plays_once path known failed failed' manner m inputs there r q v u h k =
+    let a = text_of path known failed failed' manner m inputs r v h in
+    let b = text_of path known failed failed' manner m inputs q u k in
+    texts_once manner b.0 m inputs r q v u (subst (λ z. TextShows manner z m inputs r) (sym (one_text known a.0 b.0 there a.1 b.1)) a.2) b.2

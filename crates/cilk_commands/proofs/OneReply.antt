@@ -22,6 +22,7 @@ use Rattle.cilk_commands.specs.Files.{Failures}
 use Rattle.cilk_commands.specs.Replies.{BadInput, BadWords, NoMemory, Reply, Text, Unreadable}
 use Rattle.cilk_commands.specs.Serving.{AreGiven, CertifyReply, CheckReply, GivesInput, GivesProgram, InputFileFails, InputRefused, InputUnread, JudgeReply, Judged, JudgedReply, NoneFailed, NoneGiven, OriginFails, PlayReply, ProgramRefused, ProgramUnread, RunReply, SettleReply, Unjudged, WordsFail, Surroundings}
 use Rattle.cilk_commands.specs.Shown.{CertifyShows, CheckShows, InputFails, PlayShows, ProgramFails, RunShows, SettleShows, input_fault_view, program_fault_view}
+use Rattle.cilk_messages.specs.declared.words.Manner.{Manner}
 use Rattle.cilk_messages.specs.Words.{Requested, File, Origin, Standard, order_in}
 use Rattle.cilk_messages.specs.Words as words
 use Rattle.cilk_commands.proofs.OneShown.{certifies_once, checks_once, shows_once}
@@ -188,12 +189,12 @@ one_check w program certificate input r q x y z h k v u =
     (record { program_is = i; input_is = j }) r q)
     w (File program) input r q x y h k v u
 
-one_play : (w : Surroundings) (program script : Text) (workers : ℕ) (input : Option Text) (r q : Reply) → IsKnown w (File program)
-    → IsKnownInput w input → IsKnown w (File script) → PlayReply w program script workers input r → PlayReply w program script workers input q
+one_play : (w : Surroundings) (program script : Text) (manner : Manner) (input : Option Text) (r q : Reply) → IsKnown w (File program)
+    → IsKnownInput w input → IsKnown w (File script) → PlayReply w program script manner input r → PlayReply w program script manner input q
     → IsOfTexts r → IsOfTexts q → r ≡ q
-one_play w program script workers input r q x y z h k v u =
-    one_judged (PlayShows script (w.files script) w.failed w.failed' workers)
-    (λ m inputs text numbers i j r q. plays_once script (w.files script) w.failed w.failed' workers m inputs z r q)
+one_play w program script manner input r q x y z h k v u =
+    one_judged (PlayShows script (w.files script) w.failed w.failed' manner)
+    (λ m inputs text numbers i j r q. plays_once script (w.files script) w.failed w.failed' manner m inputs z r q)
     w (File program) input r q x y h k v u
 
 one_judge : (w : Surroundings) (trace : Text) (r q : Reply) → IsKnown w (File trace) → JudgeReply w trace r → JudgeReply w trace q → IsOfTexts r
@@ -211,8 +212,8 @@ one_answered w (Some (words.Run program input)) x r q h k v u = one_run w progra
 one_answered w (Some (words.Certify program input)) x r q h k v u = one_certify w program input r q x.0 x.1 h k v u
 one_answered w (Some (words.Check program certificate input)) x r q h k v u =
     one_check w program certificate input r q x.0 x.1 x.2 h k v u
-one_answered w (Some (words.Play program script workers input)) x r q h k v u =
-    one_play w program script workers input r q x.0 x.1 x.2 h k v u
+one_answered w (Some (words.Play program script manner input)) x r q h k v u =
+    one_play w program script manner input r q x.0 x.1 x.2 h k v u
 one_answered w (Some (words.Settle program input)) x r q h k v u = one_settle w program input r q x.0 x.1 h k v u
 one_answered w (Some (words.Judge trace sites)) x r q h k v u = one_judge w trace r q x h k v u
 

@@ -112,6 +112,7 @@ verdict m inputs (replies.BadInput n p) v h = failed m inputs (replies.BadInput 
 verdict m inputs (replies.Faulted n at) v h = failed m inputs (replies.Faulted n at) v h
 verdict m inputs (replies.FaultedIn n name) v h = failed m inputs (replies.FaultedIn n name) v h
 verdict m inputs (replies.BadScript at) v h = failed m inputs (replies.BadScript at) v h
+verdict m inputs (replies.Unmade skip) v h = failed m inputs (replies.Unmade skip) v h
 verdict m inputs (replies.Ended names o) v h = failed m inputs (replies.Ended names o) v h
 verdict m inputs (replies.Certified c) v h = failed m inputs (replies.Certified c) v h
 verdict m inputs replies.Accepted v h = failed m inputs replies.Accepted v h

@@ -1,6 +1,6 @@
 -- A trace's text has one verdict, or one first fault.
 --
--- - `one_clash`, `one_view_clash`: a list of lines has one first race of each kind;
+-- - `one_race`, `one_view_clash`: a list of lines has one first race of each kind;
 -- - `one_verdict`: a text has one verdict; `one_fault`: one first fault; `fault_or_verdict`: and not both;
 -- - `judges_once`: so the command `judge` has one reply.
 use Rattle.std.proofs.Common.{◌≡◌, ◌≤◌, ◌<◌, ℕ, ◌-◌, List, [], ◌∷◌, ◌++◌, length, Option, Some, None, inl, inr, refl, sym, ap, ap₂, ◌∙◌, subst, arith, append_assoc, append-nil}
@@ -15,7 +15,7 @@ use Rattle.cilk_trace.specs.declared.line.Line.{Line}
 use Rattle.cilk_trace.specs.declared.line.Line.TheVariants as lines
 use Rattle.cilk_trace.specs.declared.judge.Verdict.{Verdict}
 use Rattle.cilk_trace.specs.declared.judge.Verdict.TheVariants as verdicts
-use Rattle.cilk_trace.specs.Accesses.{Accesses, Location, Writes, strand_at}
+use Rattle.cilk_trace.specs.Accesses.{AccessesAt, WritesAt, IsFirstCellRace, IsFirstTraceRace, strand_at}
 use Rattle.cilk_trace.specs.Reducers.{IsFirstTraceViewRace, ReadsView, retirements}
 use Rattle.cilk_trace.specs.Judging.{IsJudged, Says}
 use Rattle.cilk_trace.specs.Marks.{marks_of}
@@ -26,6 +26,7 @@ use Rattle.cilk_trace.specs.Forms.{reading_of}
 use Rattle.cilk_trace.specs.Reading.{Reading}
 use Rattle.cilk_trace.specs.Texts.{IsTraceText}
 use Rattle.cilk_trace.proofs.Counting.{limits_front}
+use Rattle.cilk_trace.proofs.Finding.{of_cell}
 use Rattle.cilk_trace.proofs.Forms.{reads_traces}
 use Rattle.cilk_commands.specs.TraceTexts.{BeginsTrace, HasVerdict, IsMalformedAt, IsMisplacedAt, IsTruncatedAt}
 use Rattle.cilk_commands.specs.Files.{Failures}
@@ -50,12 +51,21 @@ module _ (L : Type 0) (t : Tree) (strand : ℕ → ℕ) (accesses writes : ℕ �
         ]
       ]
 
-  one_clash : (p q p' q' : ℕ) → IsFirstClash L t strand accesses writes p q → IsFirstClash L t strand accesses writes p' q' → (p ≡ p') × (q ≡ q')
-  one_clash p q p' q' f g =
-      let below = f.least p' q' g.race in
-      let above = g.least p q f.race in
+-- a trace has one first race
+module _ (t : Tree) (ls : List Line) where
+  one_race : (p q p' q' : ℕ) → IsFirstTraceRace t ls p q → IsFirstTraceRace t ls p' q' → (p ≡ p') × (q ≡ q')
+  one_race p q p' q' f g =
+      let below = f.least p' q' (of_cell t ls g.cell p' q' g.first.race) in
+      let above = g.least p q (of_cell t ls f.cell p q f.first.race) in
       let later : q' ≡ q = omega (arith, below, above) in
-      (with_one_later p p' q f (subst (λ (k : ℕ). IsFirstClash L t strand accesses writes p' k) later g), sym later)
+      let h : IsFirstTraceRace t ls p' q = subst (λ (k : ℕ). IsFirstTraceRace t ls p' k) later g in
+      let one = f.least_cell h.cell p' h.first.race in
+      let two = h.least_cell f.cell p f.first.race in
+      let cell : h.cell ≡ f.cell = omega (arith, one, two) in (
+        with_one_later ℕ t (strand_at ls) (λ p a. AccessesAt ls f.cell a (p - 1)) (λ p a. WritesAt ls f.cell a (p - 1)) p p' q f.first
+            (subst (λ (c : ℕ). IsFirstCellRace t ls c p' q) cell h.first),
+        sym later,
+      )
 
 -- a line reads the view of one reducer
 one_reducer : (o : Option Line) (r s : ℕ) → ReadsView o r → ReadsView o s → r ≡ s
@@ -87,14 +97,14 @@ module _ (t : Tree) (ls : List Line) where
 
   one_said : (v w : Verdict) → Says t ls v → Says t ls w → v ≡ w
   one_said (verdicts.RaceFree n) (verdicts.RaceFree m) h k = ap verdicts.RaceFree (h.2 ∙ sym k.2)
-  one_said (verdicts.RaceFree n) (verdicts.Race p q) h k = absurd (h.0 p q k.race)
+  one_said (verdicts.RaceFree n) (verdicts.Race p q) h k = absurd (h.0 p q (of_cell t ls k.cell p q k.first.race))
   one_said (verdicts.RaceFree n) (verdicts.ViewRace p q) h k = let race = k.1 in absurd (h.1 p q race.race)
-  one_said (verdicts.Race p q) (verdicts.RaceFree n) h k = absurd (k.0 p q h.race)
+  one_said (verdicts.Race p q) (verdicts.RaceFree n) h k = absurd (k.0 p q (of_cell t ls h.cell p q h.first.race))
   one_said (verdicts.Race p q) (verdicts.Race p' q') h k =
-      let same = one_clash Location t (strand_at ls) (Accesses ls) (Writes ls) p q p' q' h k in ap₂ verdicts.Race same.0 same.1
-  one_said (verdicts.Race p q) (verdicts.ViewRace p' q') h k = absurd (k.0 p q h.race)
+      let same = one_race t ls p q p' q' h k in ap₂ verdicts.Race same.0 same.1
+  one_said (verdicts.Race p q) (verdicts.ViewRace p' q') h k = absurd (k.0 p q (of_cell t ls h.cell p q h.first.race))
   one_said (verdicts.ViewRace p q) (verdicts.RaceFree n) h k = let race = h.1 in absurd (k.1 p q race.race)
-  one_said (verdicts.ViewRace p q) (verdicts.Race p' q') h k = absurd (h.0 p' q' k.race)
+  one_said (verdicts.ViewRace p q) (verdicts.Race p' q') h k = absurd (h.0 p' q' (of_cell t ls k.cell p' q' k.first.race))
   one_said (verdicts.ViewRace p q) (verdicts.ViewRace p' q') h k =
       let same = one_view_clash p q p' q' h.1 k.1 in ap₂ verdicts.ViewRace same.0 same.1
 
@@ -210,7 +220,7 @@ said : (path all : Text) (failed failed' : Failures) (r : Reply) → IsOfTexts r
 said path all failed failed' (replies.RaceFree n) v h = let given = h.1 in (given.0, given.1, Judges (verdicts.RaceFree n) refl given.2)
 said path all failed failed' (replies.Refused number places) v (none, p, q, e, (text, held, h)) = (text, held, raced text number p q places e h)
 said path all failed failed' (replies.BadTrace number line) v h = let given = h.1 in (given.0, given.1, Blames number line refl given.2)
-said path all failed failed' (replies.Changed name) v h = let none : Some all ≡ None = h.1 in absurd (cc none)
+said path all failed failed' (replies.Changed name) v h = absurd h
 said path all failed failed' replies.NoMemory v h = absurd v
 said path all failed failed' (replies.Unreadable name) v h = absurd v
 said path all failed failed' replies.BadWords v h = absurd h
@@ -219,6 +229,7 @@ said path all failed failed' (replies.BadInput n p) v h = absurd h
 said path all failed failed' (replies.Faulted n at) v h = absurd h
 said path all failed failed' (replies.FaultedIn n name) v h = absurd h
 said path all failed failed' (replies.BadScript at) v h = absurd h
+said path all failed failed' (replies.Unmade skip) v h = absurd h
 said path all failed failed' (replies.Ended names o) v h = absurd h
 said path all failed failed' (replies.Certified c) v h = absurd h
 said path all failed failed' replies.Accepted v h = absurd h

@@ -8,7 +8,8 @@
 -- for a command that reads no other file. `given_later`: they are given whatever is read
 -- afterwards. `checked_ok`, `checked_err`: the answer to a check, and its failure. `refused_ok`,
 -- `refused_err`: a refusal that is shown, or out of memory. `refused_whole`: a refusal of a file's
--- text. `fault_shown`: a fault of a script's steps. `steps_shown`, `steps_fail`: the reply to the
+-- text. `left_ok`, `left_err`, `fault_shown`: what a script leaves, and a fault of its steps; `strict_left_ok`,
+-- `strict_left_err`, `strict_fault_shown`: the same, played strictly; `manner_ok`, `manner_err`: both. `steps_shown`, `steps_fail`: the reply to the
 -- steps of a script's text. `script_unread`, `text_played`: a script that isn't read, and the reply
 -- to its text. `played_ok`, `played_err`: the answer to `play`, and its failure.
 use Rattle.std.proofs.Common.{◌≡◌, ℕ, List, [], Bool, true, false, Option, Some, None, option_map, drop, refl, sym, ap, subst, inl, inr, ◌∙◌}
@@ -32,11 +33,15 @@ use Rattle.cilk_commands.specs.Files.{Failures, IsHeld, IsUnfailed}
 use Rattle.cilk_commands.specs.Serving.{Answers, AreGiven, FileFails, GivesInput, GivesProgram, InputFileFails, InputRefused, InputUnread, IsOrNoMemory, Judged, JudgedReply, NoneFailed, NoneGiven, ProgramRefused, ProgramUnread, Serves, Shows, ShowsError, Unjudged, Surroundings, world}
 use Rattle.cilk_parser.specs.Scripts.{IsScript}
 use Rattle.cilk_parser.specs.declared.script.Step.{Step}
-use Rattle.cilk_commands.specs.Shown.{CheckShows, InputFails, PlayShows, ProgramFails, StepsShow, TextShows, play_fault_view}
-use Rattle.cilk_schedule.specs.Playing.{Ends, FailsAsSettled, IsFault}
+use Rattle.cilk_commands.specs.Shown.{CheckShows, InputFails, MannerShows, PlayShows, PlayedShow, ProgramFails, StepsShow, StrictlyShow, TextShows, left_view, strict_fault_view, play_fault_view}
+use Rattle.cilk_schedule.specs.Playing.{Ends, FailsAsSettled, IsFault, IsLeft, LeavesAsSettled}
 use Rattle.cilk_schedule.specs.declared.fault.PlayFault.{PlayFault}
 use Rattle.cilk_schedule.specs.declared.fault.PlayFault.TheVariants as play_faults
 use Rattle.cilk_commands.specs.Streams.{AppendsFront, AppendsPart}
+use Rattle.cilk_messages.specs.declared.words.Manner.{Manner}
+use Rattle.cilk_schedule.specs.Strict.{FailsStrictlyAsSettled, IsStrict, IsStrictFault}
+use Rattle.cilk_schedule.specs.declared.unmade.StrictFault.{StrictFault}
+use Rattle.cilk_schedule.specs.declared.unmade.StrictFault.TheVariants as strict_faults
 use Rattle.cilk_messages.specs.Words.{Requested, Certify, Check, File, Judge, Play, Run, Settle, Origin, Standard, order_in}
 use Rattle.cilk_commands.specs.declared.reply.Answer.{Answer}
 use Rattle.cilk_commands.specs.declared.reply.Failure.{Failure}
@@ -62,7 +67,7 @@ no_memory w (Some (Run Standard input)) e = Unjudged (ProgramUnread (e, tt))
 no_memory w (Some (Run (File path) input)) e = Unjudged (ProgramUnread e)
 no_memory w (Some (Certify path input)) e = Unjudged (ProgramUnread e)
 no_memory w (Some (Check path certificate input)) e = Unjudged (ProgramUnread e)
-no_memory w (Some (Play path script workers input)) e = Unjudged (ProgramUnread e)
+no_memory w (Some (Play path script manner input)) e = Unjudged (ProgramUnread e)
 no_memory w (Some (Settle path input)) e = Unjudged (ProgramUnread e)
 no_memory w (Some (Judge trace sites)) e = none_failed w.failed w.failed' trace e
 
@@ -75,6 +80,7 @@ silent (failures.Input number place) = refl
 silent (failures.Run number at) = refl
 silent (failures.Strand number name) = refl
 silent (failures.Script at) = refl
+silent (failures.Unmade skip) = refl
 silent (failures.Trace number at) = refl
 silent (failures.Changed name) = refl
 silent failures.Memory = refl
@@ -250,33 +256,93 @@ pub fault_shown : (workers : ℕ) (steps : List Step) (q : Meant) (inputs : List
     → r ≡ play_fault_view f → StepsShow workers steps q inputs r
 fault_shown workers steps q inputs f r h never e = subst (λ x. StepsShow workers steps q inputs x) (sym e) (told_of workers steps q inputs f h never)
 
--- the reply to the steps of a script's text
-pub steps_shown : {T : Type 0} (x : Result Answer T) (workers : ℕ) (text : Text) (steps slice : List Step) (q : Meant) (inputs : List ℤ) → IsScript text steps
-    → slice ≡ steps → IfOk x (λ a. StepsShow workers slice q inputs (answer_view a)) → IfOk x (λ a. TextShows workers text q inputs (answer_view a))
-steps_shown (Ok a) workers text steps slice q inputs is e h = inr (steps, is, subst (λ s. StepsShow workers s q inputs (answer_view a)) e h)
-steps_shown (Err f) workers text steps slice q inputs is e h = tt
+-- what a script leaves that is played to its end
+left_shown : (workers : ℕ) (steps : List Step) (q : Meant) (inputs : List ℤ) (left : Option Outcome) (r : Reply) → IsLeft q.source inputs workers steps left
+    → LeavesAsSettled q.source inputs left → r ≡ left_view q left → StepsShow workers steps q inputs r
+left_shown workers steps q inputs (Some o) r h k e = subst (λ x. StepsShow workers steps q inputs x) (sym e) (refl, h, k)
+left_shown workers steps q inputs None r h k e = subst (λ x. StepsShow workers steps q inputs x) (sym e) h
 
-pub steps_fail : {T : Type 0} (x : Result T Failure) (workers : ℕ) (text : Text) (steps slice : List Step) (q : Meant) (inputs : List ℤ) → IsScript text steps
-    → slice ≡ steps → IfErr x (λ f. StepsShow workers slice q inputs (failure_view f)) → IfErr x (λ f. TextShows workers text q inputs (failure_view f))
-steps_fail (Ok a) workers text steps slice q inputs is e h = tt
-steps_fail (Err f) workers text steps slice q inputs is e h = inr (steps, is, subst (λ s. StepsShow workers s q inputs (failure_view f)) e h)
+strict_left_shown : (workers : ℕ) (steps : List Step) (q : Meant) (inputs : List ℤ) (left : Option Outcome) (r : Reply) → IsLeft q.source inputs workers steps left
+    → LeavesAsSettled q.source inputs left → IsStrict q.source inputs workers steps → r ≡ left_view q left → StrictlyShow workers steps q inputs r
+strict_left_shown workers steps q inputs (Some o) r h k all e = subst (λ x. StrictlyShow workers steps q inputs x) (sym e) ((refl, h, k), all)
+strict_left_shown workers steps q inputs None r h k all e = subst (λ x. StrictlyShow workers steps q inputs x) (sym e) (h, all)
+
+pub left_ok : {T : Type 0} (x : Result Answer T) (workers : ℕ) (steps : List Step) (q : Meant) (inputs : List ℤ) (left : Option Outcome)
+    → IsLeft q.source inputs workers steps left → LeavesAsSettled q.source inputs left → IfOk x (λ a. answer_view a ≡ left_view q left)
+    → IfOk x (λ a. StepsShow workers steps q inputs (answer_view a))
+left_ok (Ok a) workers steps q inputs left h k e = left_shown workers steps q inputs left (answer_view a) h k e
+left_ok (Err f) workers steps q inputs left h k e = tt
+
+pub strict_left_ok : {T : Type 0} (x : Result Answer T) (workers : ℕ) (steps : List Step) (q : Meant) (inputs : List ℤ) (left : Option Outcome)
+    → IsLeft q.source inputs workers steps left → LeavesAsSettled q.source inputs left → IsStrict q.source inputs workers steps
+    → IfOk x (λ a. answer_view a ≡ left_view q left) → IfOk x (λ a. StrictlyShow workers steps q inputs (answer_view a))
+strict_left_ok (Ok a) workers steps q inputs left h k all e = strict_left_shown workers steps q inputs left (answer_view a) h k all e
+strict_left_ok (Err f) workers steps q inputs left h k all e = tt
+
+-- no memory for the answer
+pub left_err : {T : Type 0} (x : Result T Failure) (workers : ℕ) (steps : List Step) (q : Meant) (inputs : List ℤ) → IfErr x (λ f. failure_view f ≡ NoMemory)
+    → IfErr x (λ f. StepsShow workers steps q inputs (failure_view f))
+left_err (Ok a) workers steps q inputs e = tt
+left_err (Err f) workers steps q inputs e = subst (λ r. StepsShow workers steps q inputs r) (sym e) tt
+
+pub strict_left_err : {T : Type 0} (x : Result T Failure) (workers : ℕ) (steps : List Step) (q : Meant) (inputs : List ℤ) → IfErr x (λ f. failure_view f ≡ NoMemory)
+    → IfErr x (λ f. StrictlyShow workers steps q inputs (failure_view f))
+strict_left_err (Ok a) workers steps q inputs e = tt
+strict_left_err (Err f) workers steps q inputs e = subst (λ r. StrictlyShow workers steps q inputs r) (sym e) tt
+
+strictly_told_of : (workers : ℕ) (steps : List Step) (q : Meant) (inputs : List ℤ) (f : StrictFault) → IsStrictFault q.source inputs workers steps f
+    → FailsStrictlyAsSettled q.source inputs f → StrictlyShow workers steps q inputs (strict_fault_view f)
+strictly_told_of workers steps q inputs (strict_faults.Skipped skip) h never = h
+strictly_told_of workers steps q inputs (strict_faults.Play play_faults.Memory) h never = tt
+strictly_told_of workers steps q inputs (strict_faults.Play (play_faults.Line at)) h never = h
+strictly_told_of workers steps q inputs (strict_faults.Play (play_faults.Stop fault name)) h never = let e = h.1 in ((fault, refl, (h.0, e.0, h.2, h.3), never), e.1)
+
+-- a fault of a script's steps that is played strictly
+pub strict_fault_shown : (workers : ℕ) (steps : List Step) (q : Meant) (inputs : List ℤ) (f : StrictFault) (r : Reply) → IsStrictFault q.source inputs workers steps f
+    → FailsStrictlyAsSettled q.source inputs f → r ≡ strict_fault_view f → StrictlyShow workers steps q inputs r
+strict_fault_shown workers steps q inputs f r h never e = subst (λ x. StrictlyShow workers steps q inputs x) (sym e) (strictly_told_of workers steps q inputs f h never)
+
+-- the reply to steps that are played strictly, or aren't
+pub manner_ok : {T : Type 0} (x : Result Answer T) (manner : Manner) (b : Bool) (steps : List Step) (q : Meant) (inputs : List ℤ) → manner.is_strict ≡ b
+    → IfOk x (λ a. PlayedShow b manner.workers steps q inputs (answer_view a)) → IfOk x (λ a. MannerShows manner steps q inputs (answer_view a))
+manner_ok x manner b steps q inputs e h = subst (λ (z : Bool). IfOk x (λ a. PlayedShow z manner.workers steps q inputs (answer_view a))) (sym e) h
+
+pub manner_err : {T : Type 0} (x : Result T Failure) (manner : Manner) (b : Bool) (steps : List Step) (q : Meant) (inputs : List ℤ) → manner.is_strict ≡ b
+    → IfErr x (λ f. PlayedShow b manner.workers steps q inputs (failure_view f)) → IfErr x (λ f. MannerShows manner steps q inputs (failure_view f))
+manner_err x manner b steps q inputs e h = subst (λ (z : Bool). IfErr x (λ f. PlayedShow z manner.workers steps q inputs (failure_view f))) (sym e) h
+
+-- the reply to the steps of a script's text
+pub steps_shown : {T : Type 0} (x : Result Answer T) (manner : Manner) (text : Text) (steps slice : List Step) (q : Meant) (inputs : List ℤ) → IsScript text steps
+    → slice ≡ steps → IfOk x (λ a. MannerShows manner slice q inputs (answer_view a)) → IfOk x (λ a. TextShows manner text q inputs (answer_view a))
+steps_shown (Ok a) manner text steps slice q inputs is e h = inr (steps, is, subst (λ s. MannerShows manner s q inputs (answer_view a)) e h)
+steps_shown (Err f) manner text steps slice q inputs is e h = tt
+
+pub steps_fail : {T : Type 0} (x : Result T Failure) (manner : Manner) (text : Text) (steps slice : List Step) (q : Meant) (inputs : List ℤ) → IsScript text steps
+    → slice ≡ steps → IfErr x (λ f. MannerShows manner slice q inputs (failure_view f)) → IfErr x (λ f. TextShows manner text q inputs (failure_view f))
+steps_fail (Ok a) manner text steps slice q inputs is e h = tt
+steps_fail (Err f) manner text steps slice q inputs is e h = inr (steps, is, subst (λ s. MannerShows manner s q inputs (failure_view f)) e h)
+
+-- the reply to steps is of no file
+unread_never : (b : Bool) (workers : ℕ) (steps : List Step) (q : Meant) (inputs : List ℤ) (name : Text) → PlayedShow b workers steps q inputs (Unreadable name) → ⊥
+unread_never true workers steps q inputs name h = h.0
+unread_never false workers steps q inputs name h = h
 
 -- a script that isn't read
-pub script_unread : (path : Text) (known : Option Text) (failed failed' : Failures) (workers : ℕ) (q : Meant) (inputs : List ℤ) (r : Reply)
-    → FileFails failed failed' path r → PlayShows path known failed failed' workers q inputs r
-script_unread path known failed failed' workers q inputs (Unreadable name) h = (h.0, h.1)
-script_unread path known failed failed' workers q inputs NoMemory h = h
-script_unread path known failed failed' workers q inputs _ h = absurd h
+pub script_unread : (path : Text) (known : Option Text) (failed failed' : Failures) (manner : Manner) (q : Meant) (inputs : List ℤ) (r : Reply)
+    → FileFails failed failed' path r → PlayShows path known failed failed' manner q inputs r
+script_unread path known failed failed' manner q inputs (Unreadable name) h = (h.0, h.1)
+script_unread path known failed failed' manner q inputs NoMemory h = h
+script_unread path known failed failed' manner q inputs _ h = absurd h
 
 -- the reply to a script's text, of which no read failed
-module _ (path : Text) (known : Option Text) (failed failed' : Failures) (none : failed' ≡ failed) (workers : ℕ) (q : Meant) (inputs : List ℤ) where
-  pub text_played : (r : Reply) (text slice : Text) → IsHeld known text → slice ≡ text → TextShows workers slice q inputs r
-      → PlayShows path known failed failed' workers q inputs r
-  text_played r text slice held e h = by r (none, (text, held, subst (λ t. TextShows workers t q inputs r) e h))
+module _ (path : Text) (known : Option Text) (failed failed' : Failures) (none : failed' ≡ failed) (manner : Manner) (q : Meant) (inputs : List ℤ) where
+  pub text_played : (r : Reply) (text slice : Text) → IsHeld known text → slice ≡ text → TextShows manner slice q inputs r
+      → PlayShows path known failed failed' manner q inputs r
+  text_played r text slice held e h = by r (none, (text, held, subst (λ t. TextShows manner t q inputs r) e h))
     where
-      by : (x : Reply) → (failed' ≡ failed) × ((t : Text) × IsHeld known t × TextShows workers t q inputs x)
-          → PlayShows path known failed failed' workers q inputs x
-      by (Unreadable name) k = let shown = k.1 in elim shown.2 [ inl l ↦ absurd l | inr l ↦ absurd l.2 ]
+      by : (x : Reply) → (failed' ≡ failed) × ((t : Text) × IsHeld known t × TextShows manner t q inputs x)
+          → PlayShows path known failed failed' manner q inputs x
+      by (Unreadable name) k = let shown = k.1 in elim shown.2 [ inl l ↦ absurd l | inr l ↦ absurd (unread_never manner.is_strict manner.workers l.0 q inputs name l.2) ]
       by NoMemory k = k.0
       by replies.BadWords k = k
       by (replies.BadProgram n p) k = k
@@ -284,6 +350,7 @@ module _ (path : Text) (known : Option Text) (failed failed' : Failures) (none :
       by (replies.Faulted n at) k = k
       by (replies.FaultedIn n name) k = k
       by (replies.BadScript at) k = k
+      by (replies.Unmade skip) k = k
       by (replies.Ended names o) k = k
       by (replies.Certified c) k = k
       by replies.Accepted k = k
@@ -295,29 +362,29 @@ module _ (path : Text) (known : Option Text) (failed failed' : Failures) (none :
       by (replies.Changed name) k = k
 
   pub texts_played : {T : Type 0} (x : Result Answer T) (text slice : Text) → IsHeld known text → slice ≡ text
-      → IfOk x (λ a. TextShows workers slice q inputs (answer_view a)) → IfOk x (λ a. PlayShows path known failed failed' workers q inputs (answer_view a))
+      → IfOk x (λ a. TextShows manner slice q inputs (answer_view a)) → IfOk x (λ a. PlayShows path known failed failed' manner q inputs (answer_view a))
   texts_played (Ok a) text slice held e h = text_played (answer_view a) text slice held e h
   texts_played (Err f) text slice held e h = tt
 
   pub texts_fail : {T : Type 0} (x : Result T Failure) (text slice : Text) → IsHeld known text → slice ≡ text
-      → IfErr x (λ f. TextShows workers slice q inputs (failure_view f)) → IfErr x (λ f. PlayShows path known failed failed' workers q inputs (failure_view f))
+      → IfErr x (λ f. TextShows manner slice q inputs (failure_view f)) → IfErr x (λ f. PlayShows path known failed failed' manner q inputs (failure_view f))
   texts_fail (Ok a) text slice held e h = tt
   texts_fail (Err f) text slice held e h = text_played (failure_view f) text slice held e h
 
 -- the answer to `play`, in terms of the surroundings before the two texts were read
-pub played_ok : {T : Type 0} (x : Result Answer T) (path : Text) (known known' : Option Text) (n m failed : Failures) (workers : ℕ) (q : Meant)
+pub played_ok : {T : Type 0} (x : Result Answer T) (path : Text) (known known' : Option Text) (n m failed : Failures) (manner : Manner) (q : Meant)
     (inputs : List ℤ) → known ≡ known' → n ≡ m
-    → IfOk x (λ a. PlayShows path known n failed workers q inputs (answer_view a))
-    → IfOk x (λ a. PlayShows path known' m failed workers q inputs (answer_view a))
-played_ok x path known known' n m failed workers q inputs e d h =
-    let P : Option Text → Failures → Type 0 = λ k f. IfOk x (λ a. PlayShows path k f failed workers q inputs (answer_view a)) in
+    → IfOk x (λ a. PlayShows path known n failed manner q inputs (answer_view a))
+    → IfOk x (λ a. PlayShows path known' m failed manner q inputs (answer_view a))
+played_ok x path known known' n m failed manner q inputs e d h =
+    let P : Option Text → Failures → Type 0 = λ k f. IfOk x (λ a. PlayShows path k f failed manner q inputs (answer_view a)) in
     subst (λ k. P k m) e (subst (λ f. P known f) d h)
 
 -- its failure
-pub played_err : {T : Type 0} (x : Result T Failure) (path : Text) (known known' : Option Text) (n m failed : Failures) (workers : ℕ) (q : Meant)
+pub played_err : {T : Type 0} (x : Result T Failure) (path : Text) (known known' : Option Text) (n m failed : Failures) (manner : Manner) (q : Meant)
     (inputs : List ℤ) → known ≡ known' → n ≡ m
-    → IfErr x (λ a. PlayShows path known n failed workers q inputs (failure_view a))
-    → IfErr x (λ a. PlayShows path known' m failed workers q inputs (failure_view a))
-played_err x path known known' n m failed workers q inputs e d h =
-    let P : Option Text → Failures → Type 0 = λ k f. IfErr x (λ a. PlayShows path k f failed workers q inputs (failure_view a)) in
+    → IfErr x (λ a. PlayShows path known n failed manner q inputs (failure_view a))
+    → IfErr x (λ a. PlayShows path known' m failed manner q inputs (failure_view a))
+played_err x path known known' n m failed manner q inputs e d h =
+    let P : Option Text → Failures → Type 0 = λ k f. IfErr x (λ a. PlayShows path k f failed manner q inputs (failure_view a)) in
     subst (λ k. P k m) e (subst (λ f. P known f) d h)

@@ -2,17 +2,13 @@
 --
 -- - `ahead_ended`: if nothing follows, there is no line more, and none that is malformed;
 -- - `cut_short`: so of what was pulled before a pull that failed;
--- - `begun_formed`: no line is malformed where the lines begin a trace; `traced_formed`, `survey_formed`: none of a trace's text is;
--- - `whole_formed`: so up to each place of a known text that is a trace's;
--- - `read_on`: a fault of the second reading that is no change; `told_apart`: a fault of a text is no failed pull.
-use Rattle.std.proofs.Common.{◌≡◌, ◌<◌, ◌≤◌, ℕ, ◌+◌, Bool, true, false, cond, eqb, List, [], ◌∷◌, ◌++◌, length, take, Option, Some, None, inl, inr, ◌⊎◌, refl, sym, ap, subst, ◌∙◌, arith, append-nil, append_assoc}
-use Rattle.std.specs.Prelude.{IfSome}
+-- - `begun_formed`: no line is malformed where the lines begin a trace;
+-- - `told_apart`: a fault of a text is no failed pull.
+use Rattle.std.proofs.Common.{◌≡◌, ◌<◌, ◌≤◌, ℕ, Bool, true, false, cond, eqb, List, [], ◌∷◌, ◌++◌, take, Option, Some, None, inl, inr, ◌⊎◌, refl, sym, ap, subst, ◌∙◌, arith, append-nil, append_assoc}
 use Rattle.std.specs.Io.KnownBytes.{Consumes}
 use Rattle.std.proofs.lemmas.Bool.{true≢false}
-use Rattle.std.proofs.lemmas.List.{take_all}
 use Rattle.cilk_checker.specs.Pulls.{Takes}
 use Rattle.cilk_trace.specs.declared.line.Line.{Line}
-use Rattle.cilk_trace.specs.declared.survey.Known.{Known}
 use Rattle.cilk_trace.specs.declared.fault.TraceFault.{TraceFault}
 use Rattle.cilk_trace.specs.declared.fault.TraceFault.TheVariants as text_faults
 use Rattle.cilk_trace.specs.declared.fault.TraceFault.TheVariants.{Malformed, Truncated}
@@ -27,20 +23,16 @@ use Rattle.cilk_trace.specs.Forms.{binary_header, reading_of}
 use Rattle.cilk_trace.specs.Numbers.{Cut, NoMore, numbers_from}
 use Rattle.cilk_trace.specs.Reading.{HasNoLf, Reading, stops, whole}
 use Rattle.cilk_trace.specs.Readers.{ahead, ahead_by, fault_by, fault_of}
-use Rattle.cilk_trace.specs.Surveys.{IsTrace, KeepsLimits}
+use Rattle.cilk_trace.specs.Surveys.{IsTrace}
 use Rattle.cilk_trace.specs.TextReaders as text
-use Rattle.cilk_trace.specs.Texts.{IsTraceText}
 use Rattle.cilk_trace.proofs.Counting.{limits_front}
-use Rattle.cilk_trace.proofs.Forms.{reads_traces}
 use Rattle.cilk_trace.proofs.Headers.{cut_header, no_lf_header}
 use Rattle.cilk_trace.proofs.Readings.{end_truncated, end_whole}
-use Rattle.cilk_commands.specs.declared.trace_fault.Unjudged.{Unjudged}
 use Rattle.cilk_commands.specs.declared.trace_fault.Unjudged.TheVariants as faults
 use Rattle.cilk_commands.specs.declared.trace_pieces.Pieces.{Pieces}
-use Rattle.cilk_commands.specs.Files.{HoldsTo}
-use Rattle.cilk_commands.specs.TraceFaults.{again, told}
+use Rattle.cilk_commands.specs.TraceFaults.{told}
 use Rattle.cilk_commands.specs.TracePieces.{HasLines, IsReading, after_lines}
-use Rattle.cilk_commands.specs.TraceTexts.{BeginsTrace, HasNoMalformedLine, HasSurvey}
+use Rattle.cilk_commands.specs.TraceTexts.{BeginsTrace, HasNoMalformedLine}
 use Rattle.cilk_commands.proofs.TraceReread.{read_to_end}
 
 -- ---- the end of a reader's text
@@ -139,34 +131,7 @@ begun_formed bytes ls h b line (inr w) =
     let is : ls ≡ (w.before ++ w.wrong ∷ []) ++ w.after = sym h.lines ∙ (w.lines ∙ sym (append_assoc w.before (w.wrong ∷ []) w.after)) in
     w.ends (begins_front (w.before ++ w.wrong ∷ []) w.after (subst BeginsTrace is b))
 
-pub traced_formed : (bytes : List ℕ) (ls : List Line) → IsTraceText bytes ls → IsTrace ls → KeepsLimits ls → HasNoMalformedLine bytes
-traced_formed bytes ls spells trace limits =
-    let read = (reads_traces bytes ls).1 spells in
-    begun_formed bytes ls
-    (record { lines = ap (λ (x : Reading). x.lines) read; formed = λ line e. none_some (Malformed line) (sym (ap (λ (x : Reading). x.fault) read) ∙ e) })
-    ([], subst IsTrace (sym (append-nil ls)) trace, limits)
-
-pub survey_formed : (bytes : List ℕ) (k : Known) → HasSurvey bytes k → HasNoMalformedLine bytes
-survey_formed bytes k h =
-    let known = h.known in traced_formed bytes h.lines h.spells known.trace known.limits
-
-pub whole_formed : (known : Option (List ℕ)) (at : ℕ) (first : List ℕ) → IfSome known (λ all. first ≡ all) → HasNoMalformedLine first
-    → HoldsTo known at HasNoMalformedLine
-whole_formed None at first held formed = tt
-whole_formed (Some all) at first held formed = (
-  at + length all,
-  omega arith,
-  subst HasNoMalformedLine (held ∙ sym (take_all (at + length all) all (omega arith))) formed,
-)
-
 -- ---- faults
-
-pub read_on : (e : Unjudged) → again e ≡ faults.Unread → e ≡ faults.Unread
-read_on (faults.Malformed line) e = absurd cc
-read_on (faults.Truncated line) e = absurd cc
-read_on faults.Changed e = absurd cc
-read_on faults.Unread e = refl
-read_on faults.Memory e = absurd cc
 
 pub told_apart : (f : TraceFault) → told f ≡ faults.Unread → ⊥
 told_apart (text_faults.Malformed line) e = absurd cc

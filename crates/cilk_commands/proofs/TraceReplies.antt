@@ -1,11 +1,10 @@
--- The replies of `judge`, by the two readings of a trace's file.
+-- The replies of `judge`, by the reading of a trace's file.
 --
 -- - `numbered`: the lines at a verdict's positions have numbers;
 -- - `verdict_shown`: the reply that shows a verdict;
--- - `unsurveyed_shown`, `unjudged_shown`: that of a reading that fails;
--- - `since_ok`, `since_err`: the reply of the second reading, by what was known before the first.
-use Rattle.std.proofs.Common.{◌≡◌, ℕ, ◌+◌, ◌-◌, ◌<◌, ◌^◌, List, length, Option, Some, None, option_map, drop, inl, inr, refl, sym, ap, subst, ◌∙◌, arith}
-use Rattle.std.specs.Prelude.{Result, Ok, Err, IfOk, IfErr, IfSome, slice_get}
+-- - `fault_shown`: that of a reading that fails.
+use Rattle.std.proofs.Common.{◌≡◌, ℕ, ◌+◌, ◌-◌, ◌<◌, ◌^◌, List, length, Option, Some, None, option_map, drop, inl, inr, refl, sym, subst, arith}
+use Rattle.std.specs.Prelude.{slice_get}
 use Rattle.std.proofs.lemmas.Option.{slice_get_within}
 use Rattle.cilk_trace.specs.declared.line.Line.{Line}
 use Rattle.cilk_trace.specs.declared.judge.Verdict.{Verdict}
@@ -16,14 +15,11 @@ use Rattle.cilk_trace.specs.Reducers.{ReadsView}
 use Rattle.cilk_tree.specs.Tree.{Tree, tree}
 use Rattle.cilk_commands.specs.declared.trace_fault.Unjudged.{Unjudged}
 use Rattle.cilk_commands.specs.declared.trace_fault.Unjudged.TheVariants as faults
-use Rattle.cilk_commands.specs.TraceFaults.{IsUnjudgedAgain, IsUnsurveyed}
+use Rattle.cilk_commands.specs.TraceFaults.{IsUnjudged}
 use Rattle.cilk_commands.specs.TraceTexts.{GivesText, HasNoMalformedLine, HasVerdict}
 use Rattle.cilk_commands.specs.Files.{Failures, HasFailed, HoldsTo, IsUnfailed}
-use Rattle.cilk_commands.specs.Replies as replies
-use Rattle.cilk_commands.specs.Replies.{Reply, Text, answer_view, failure_view}
+use Rattle.cilk_commands.specs.Replies.{Reply, Text}
 use Rattle.cilk_commands.specs.Traces.{IsNumbered, JudgeShows, unjudged_view, verdict_view}
-use Rattle.cilk_commands.specs.declared.reply.Answer.{Answer}
-use Rattle.cilk_commands.specs.declared.reply.Failure.{Failure}
 
 -- ---- the lines of a verdict
 
@@ -50,10 +46,10 @@ both_numbered ls p q few less at =
 said_numbered : (t : Tree) (ls : List Line) (v : Verdict) → length ls + 1 < 2 ^ 32 - 1 → Says t ls v → IsNumbered v
 said_numbered t ls (verdicts.RaceFree n) few h = tt
 said_numbered t ls (verdicts.Race p q) few h =
-    let race = h.race in
+    let race = h.first.race in
     both_numbered ls p q few race.earlier (elim race.clash [
-      | inl w ↦ accesses_line (slice_get ls (q - 1)) race.cell.cell w.1.0
-      | inr w ↦ writes_line (slice_get ls (q - 1)) race.cell.cell w.1.0
+      | inl w ↦ accesses_line (slice_get ls (q - 1)) h.cell w.1.0
+      | inr w ↦ writes_line (slice_get ls (q - 1)) h.cell w.1.0
     ])
 said_numbered t ls (verdicts.ViewRace p q) few h =
     let race = h.1.race in
@@ -86,72 +82,19 @@ pub verdict_shown : {F : Type 0} (path : Text) (known : Option Text) (failed : F
 verdict_shown path known failed old new v r e none h =
     subst (λ (x : Reply). JudgeShows path known (failed old) (failed new) x) (sym e) (judged_shown path known (failed old) (failed new) v none h)
 
-unsurveyed_view : (path : Text) (known : Option Text) (failed failed' : Failures) (a b : ℕ) (e : Unjudged) → (b ≡ a → IsUnfailed failed failed' path)
-    → (a < b → HasFailed path failed failed') → (e ≡ faults.Unread → a < b → HoldsTo known failed'.at HasNoMalformedLine) → IsUnsurveyed known a b e
+fault_view : (path : Text) (known : Option Text) (failed failed' : Failures) (a b : ℕ) (e : Unjudged) → (b ≡ a → IsUnfailed failed failed' path)
+    → (a < b → HasFailed path failed failed') → (e ≡ faults.Unread → a < b → HoldsTo known failed'.at HasNoMalformedLine) → IsUnjudged known a b e
     → JudgeShows path known failed failed' (unjudged_view path e)
-unsurveyed_view path known failed failed' a b (faults.Malformed line) stays fails up h = let t = h.1 in (stays h.0, (t.0, t.1, inl (refl, t.2)))
-unsurveyed_view path known failed failed' a b (faults.Truncated line) stays fails up h = let t = h.1 in (stays h.0, (t.0, t.1, inr (refl, t.2)))
-unsurveyed_view path known failed failed' a b faults.Changed stays fails up h = absurd h
-unsurveyed_view path known failed failed' a b faults.Unread stays fails up h = (refl, fails h, up refl h)
-unsurveyed_view path known failed failed' a b faults.Memory stays fails up h = stays h
+fault_view path known failed failed' a b (faults.Malformed line) stays fails up h = let t = h.1 in (stays h.0, (t.0, t.1, inl (refl, t.2)))
+fault_view path known failed failed' a b (faults.Truncated line) stays fails up h = let t = h.1 in (stays h.0, (t.0, t.1, inr (refl, t.2)))
+fault_view path known failed failed' a b faults.Unread stays fails up h = (refl, fails h, up refl h)
+fault_view path known failed failed' a b faults.Memory stays fails up h = stays h
 
-pub unsurveyed_shown : {F : Type 0} (path : Text) (known known' : Option Text) (at : ℕ) (failed : F → Failures) (old new : F) (a b : ℕ) (e : Unjudged)
+pub fault_shown : {F : Type 0} (path : Text) (known known' : Option Text) (at : ℕ) (failed : F → Failures) (old new : F) (a b : ℕ) (e : Unjudged)
     (r : Reply) → known' ≡ known → at ≡ 0 → r ≡ unjudged_view path e → (b ≡ a → IsUnfailed (failed old) (failed new) path)
     → (a < b → HasFailed path (failed old) (failed new)) → (e ≡ faults.Unread → a < b → HoldsTo known (let f = failed new in f.at) HasNoMalformedLine)
-    → IsUnsurveyed (option_map (drop at) known') a b e → JudgeShows path known (failed old) (failed new) r
-unsurveyed_shown path known known' at failed old new a b e r same first is stays fails up h =
+    → IsUnjudged (option_map (drop at) known') a b e → JudgeShows path known (failed old) (failed new) r
+fault_shown path known known' at failed old new a b e r same first is stays fails up h =
     subst (λ (x : Reply). JudgeShows path known (failed old) (failed new) x) (sym is)
-    (unsurveyed_view path known (failed old) (failed new) a b e stays fails up
-    (from_first (λ k. IsUnsurveyed k a b e) known known' at same first h))
-
--- a text that is known doesn't change
-unchanged : (known : Option Text) (first : Text) → IfSome known (λ all. first ≡ all) → (known ≡ Some first → ⊥) → known ≡ None
-unchanged None first held h = refl
-unchanged (Some all) first held h = absurd (h (ap Some (sym held)))
-
-unjudged_view_shown : (path : Text) (known : Option Text) (failed failed' : Failures) (a b : ℕ) (first : Text) (e : Unjudged)
-    → IfSome known (λ all. first ≡ all) → (b ≡ a → IsUnfailed failed failed' path) → (a < b → HasFailed path failed failed')
-    → HoldsTo known failed'.at HasNoMalformedLine → IsUnjudgedAgain first known a b e → JudgeShows path known failed failed' (unjudged_view path e)
-unjudged_view_shown path known failed failed' a b first (faults.Malformed line) held stays fails up h = absurd h
-unjudged_view_shown path known failed failed' a b first (faults.Truncated line) held stays fails up h = absurd h
-unjudged_view_shown path known failed failed' a b first faults.Changed held stays fails up h = (refl, unchanged known first held h.1, stays h.0)
-unjudged_view_shown path known failed failed' a b first faults.Unread held stays fails up h = (refl, fails h, up)
-unjudged_view_shown path known failed failed' a b first faults.Memory held stays fails up h = stays h
-
-pub unjudged_shown : {F : Type 0} (path : Text) (known known' : Option Text) (at : ℕ) (failed : F → Failures) (old new : F) (a b : ℕ) (first : Text)
-    (e : Unjudged) (r : Reply) → known' ≡ known → at ≡ 0 → r ≡ unjudged_view path e → IfSome known (λ all. first ≡ all)
-    → (b ≡ a → IsUnfailed (failed old) (failed new) path) → (a < b → HasFailed path (failed old) (failed new))
-    → HoldsTo known (let f = failed new in f.at) HasNoMalformedLine → IsUnjudgedAgain first (option_map (drop at) known') a b e
-    → JudgeShows path known (failed old) (failed new) r
-unjudged_shown path known known' at failed old new a b first e r same from is held stays fails up h =
-    subst (λ (x : Reply). JudgeShows path known (failed old) (failed new) x) (sym is)
-    (unjudged_view_shown path known (failed old) (failed new) a b first e held stays fails up
-    (from_first (λ k. IsUnjudgedAgain first k a b e) known known' at same from h))
-
--- the reply of the second reading
-module _ (path : Text) (known known' : Option Text) (before between after : Failures) (none : IsUnfailed before between path) (same : known' ≡ known) where
-  still : IsUnfailed between after path → IsUnfailed before after path
-  still later = record { count = later.count ∙ none.count; elsewhere = later.elsewhere ∙ none.elsewhere }
-
-  as_known : (r : Reply) → JudgeShows path known between after r → JudgeShows path known before after r
-  as_known (replies.RaceFree n) shown = (still shown.0, shown.1)
-  as_known (replies.Refused number places) shown = (still shown.0, shown.1, shown.2, shown.3, shown.4)
-  as_known (replies.BadTrace number at) shown = (still shown.0, shown.1)
-  as_known (replies.Changed name) shown = (shown.0, shown.1, still shown.2)
-  as_known (replies.Unreadable name) shown =
-      (shown.0, (subst (λ (n : ℕ). n < after.count) none.count shown.1.0, shown.1.1 ∙ none.elsewhere), shown.2)
-  as_known replies.NoMemory shown = still shown
-  as_known _ shown = absurd shown
-
-  since : (r : Reply) → JudgeShows path known' between after r → JudgeShows path known before after r
-  since r shown = as_known r (subst (λ (k : Option Text). JudgeShows path k between after r) same shown)
-
-  pub since_ok : {T : Type 0} (x : Result Answer T) → IfOk x (λ a. JudgeShows path known' between after (answer_view a))
-      → IfOk x (λ a. JudgeShows path known before after (answer_view a))
-  since_ok (Ok a) h = since (answer_view a) h
-  since_ok (Err f) h = tt
-
-  pub since_err : {T : Type 0} (x : Result T Failure) → IfErr x (λ f. JudgeShows path known' between after (failure_view f))
-      → IfErr x (λ f. JudgeShows path known before after (failure_view f))
-  since_err (Ok a) h = tt
-  since_err (Err f) h = since (failure_view f) h
+    (fault_view path known (failed old) (failed new) a b e stays fails up
+    (from_first (λ k. IsUnjudged k a b e) known known' at same first h))

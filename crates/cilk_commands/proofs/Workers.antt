@@ -13,7 +13,7 @@ use Rattle.cilk_syntax.specs.Lexing.{all_digits, value_of}
 use Rattle.cilk_types.specs.declared.limits.TheConstants.{MAX_WORKERS}
 use Rattle.cilk_commands.specs.Serving.{HasWorkers}
 use Rattle.cilk_messages.specs.Words as words
-use Rattle.cilk_messages.specs.Words.{Certify, Check, Judge, Play, Requested, Run, Settle, certify_with, check_with, cilk_app, judge_with, order_by, order_in, paths_in, play_with, run_with, script_with, settle_with, workers_in}
+use Rattle.cilk_messages.specs.Words.{Certify, Check, Judge, Play, Requested, Run, Settle, certify_with, check_with, cilk_app, is_set, judge_with, manner_in, order_by, order_in, paths_in, play_with, run_with, script_with, settle_with, workers_in}
 
 counted : (n : ℕ) (b : Bool) → (b ≡ true → 1 ≤ n) → (workers : ℕ) → (if b then Some n else None) ≡ Some workers → 0 < workers
 counted n true some workers e = let z : Some n ≡ Some workers = e in let q : n ≡ workers = cc in let l = some refl in omega (arith, q, l)
@@ -26,16 +26,17 @@ by_count (Some digits) workers e =
     (λ h. let a = and_parts (all_digits digits) (nat_le 1 (value_of digits) && nat_le (value_of digits) MAX_WORKERS) h in let b = and_parts (nat_le 1 (value_of digits)) (nat_le (value_of digits) MAX_WORKERS) a.1 in leb-true 1 (value_of digits) b.0)
     workers e
 
+manned : (strict : Bool) (program script : Text) (input : Option Text) (o : Option ℕ) → ((workers : ℕ) → o ≡ Some workers → 0 < workers)
+    → HasWorkers (option_map (λ manner. Play program script manner input) (option_map (λ workers. record { workers = workers; is_strict = strict }) o))
+manned strict program script input None h = tt
+manned strict program script input (Some workers) h = h workers refl
+
 by_words : (rows : List Row) (script : Text) → HasWorkers (script_with rows script)
 by_words rows script = by (paths_in rows)
   where
-    given : (program : Text) (input : Option Text) (o : Option ℕ) → workers_in (first_of (codes "workers") rows) ≡ o → HasWorkers (option_map (λ workers. Play program script workers input) o)
-    given program input None e = tt
-    given program input (Some workers) e = by_count (first_of (codes "workers") rows) workers e
-
-    by : (o : Option (Text × Option Text)) → HasWorkers (option_and_then (λ paths. option_map (λ workers. Play paths.0 script workers paths.1) (workers_in (first_of (codes "workers") rows))) o)
+    by : (o : Option (Text × Option Text)) → HasWorkers (option_and_then (λ paths. option_map (λ manner. Play paths.0 script manner paths.1) (manner_in rows)) o)
     by None = tt
-    by (Some paths) = given paths.0 paths.1 (workers_in (first_of (codes "workers") rows)) refl
+    by (Some paths) = manned (is_set (first_of (codes "strict") rows)) paths.0 script paths.1 (workers_in (first_of (codes "workers") rows)) (by_count (first_of (codes "workers") rows))
 
 by_play : (rows : List Row) → HasWorkers (play_with rows)
 by_play rows = by (first_of (codes "script") rows)

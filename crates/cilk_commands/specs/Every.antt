@@ -52,8 +52,8 @@ claimed_text _ r = out_text r
 
 -- the line that follows an explanation: on which inputs a race or a fault is
 abbrev pub line_behind : Claim → Reply → Text
-line_behind c (Refused number places) = line (codes "the same race on " ++ every_text c)
-line_behind c (Faulted number at) = line (codes "the same fault on " ++ every_text c)
+line_behind c (Refused number places) = line (codes "the first race is the same on " ++ every_text c)
+line_behind c (Faulted number at) = line (codes "the fault is the same on " ++ every_text c)
 line_behind c r = []
 
 -- ---- the values of the code

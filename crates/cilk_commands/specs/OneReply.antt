@@ -21,7 +21,7 @@ AreKnown w (Some (Run program input)) = IsKnown w program × IsKnownInput w inpu
 AreKnown w (Some (Certify program input)) = IsKnown w (File program) × IsKnownInput w input
 AreKnown w (Some (Check program certificate input)) =
     IsKnown w (File program) × IsKnownInput w input × IsKnown w (File certificate)
-AreKnown w (Some (Play program script workers input)) =
+AreKnown w (Some (Play program script manner input)) =
     IsKnown w (File program) × IsKnownInput w input × IsKnown w (File script)
 AreKnown w (Some (Settle program input)) = IsKnown w (File program) × IsKnownInput w input
 AreKnown w (Some (Judge trace sites)) = IsKnown w (File trace)

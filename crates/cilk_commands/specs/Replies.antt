@@ -1,10 +1,15 @@
 -- The replies of the tool: a text on standard output or on standard error, and a status.
-use Rattle.std.specs.Prelude.{◌≡◌, ℕ, ℤ, List, [], ◌∷◌, ◌++◌, ◌==◌, codes, decimal, flat_map, if◌then◌else◌, zip}
+use Rattle.std.specs.Prelude.{◌≡◌, ℕ, ℤ, List, [], ◌∷◌, ◌++◌, ◌==◌, Option, None, Some, codes, decimal, flat_map, if◌then◌else◌, zip}
 use Rattle.std.specs.Fmt.{signed_decimal}
 use Rattle.cilk_types.specs.declared.outcome.Outcome.{Outcome}
 use Rattle.cilk_types.specs.declared.outcome.Final.{Final}
 use Rattle.cilk_types.specs.declared.outcome.Final.TheVariants as finals
 use Rattle.cilk_cert_text.specs.Certificates.{Contents, text_of}
+use Rattle.cilk_scheduler.specs.declared.choice.Choice.{Choice}
+use Rattle.cilk_scheduler.specs.declared.choice.Choice.TheVariants as choices
+use Rattle.cilk_schedule.specs.declared.unmade.Reason.{Reason}
+use Rattle.cilk_schedule.specs.declared.unmade.Reason.TheVariants as reasons
+use Rattle.cilk_schedule.specs.declared.unmade.Skip.{Skip}
 use Rattle.cilk_checker.specs.Numbers.{fields_of, number_of}
 use Rattle.cilk_checker.specs.declared.refusal.Fields.{Fields}
 use Rattle.cilk_checker.specs.declared.refusal.Fields.TheVariants as fields
@@ -31,6 +36,8 @@ pub data Reply : Type 0 where
   FaultedIn : (number : ℕ) (name : List ℕ) → Reply
   -- a line of a script, from 1, has another form, or its choices go past the limit
   BadScript : (at : ℕ) → Reply
+  -- a choice of a script that has to be made can't be made
+  Unmade : (skip : Skip) → Reply
   -- the outcome of a run, with the names of its global reducers
   Ended : (names : List Text) (outcome : Outcome) → Reply
   -- a certificate
@@ -61,6 +68,7 @@ status_of (Settled names o) = 0
 status_of (RaceFree unseen) = 0
 status_of (Faulted number at) = 3
 status_of (FaultedIn number name) = 3
+status_of (Unmade skip) = 3
 status_of (Refused number places) = 4
 status_of NoMemory = 5
 status_of _ = 2
@@ -116,6 +124,33 @@ strand_line number name = line (codes "fault " ++ decimal number ++ codes " in r
 abbrev pub script_line : ℕ → Text
 script_line at = line (codes "script at " ++ decimal at)
 
+-- a choice, as a script has it
+abbrev pub choice_text : Choice → Text
+choice_text (choices.Run worker) = codes "run " ++ decimal worker
+choice_text (choices.Steal worker place) = codes "steal " ++ decimal worker ++ codes " " ++ decimal place
+
+abbrev pub worker_of : Choice → ℕ
+worker_of (choices.Run worker) = worker
+worker_of (choices.Steal worker place) = worker
+
+-- why a choice of this worker can't be made
+abbrev pub reason_text : ℕ → Reason → Text
+reason_text worker reasons.NoWorker = codes "there is no worker " ++ decimal worker
+reason_text worker reasons.NoFrame = codes "worker " ++ decimal worker ++ codes " has no frame"
+reason_text worker reasons.HasFrame = codes "worker " ++ decimal worker ++ codes " has a frame"
+reason_text worker (reasons.Offers count) = codes "the number of offers is " ++ decimal count
+reason_text worker reasons.Ended = codes "the run has ended"
+
+-- `choice at LINE: CHOICE, but REASON`
+abbrev pub skip_text : Skip → Text
+skip_text skip =
+    codes "choice at " ++ decimal skip.line ++ codes ": " ++ choice_text skip.choice ++ codes ", but " ++ reason_text (worker_of skip.choice) skip.reason
+
+-- `skipped choices: N; first: ..`, or nothing if none was skipped
+abbrev pub skips_text : ℕ → Option Skip → Text
+skips_text count None = []
+skips_text count (Some skip) = line (codes "skipped choices: " ++ decimal count ++ codes "; first: " ++ skip_text skip)
+
 -- a number that isn't negative, after a space
 abbrev pub place_text : ℕ → Text
 place_text place = 32 ∷ decimal place
@@ -151,6 +186,7 @@ IsErrorText (BadInput number place) text = text ≡ place_line (codes "input") n
 IsErrorText (Faulted number at) text = text ≡ place_line (codes "fault") number at
 IsErrorText (FaultedIn number name) text = text ≡ strand_line number name
 IsErrorText (BadScript at) text = text ≡ script_line at
+IsErrorText (Unmade skip) text = text ≡ line (skip_text skip)
 IsErrorText (Ended names o) text = text ≡ []
 IsErrorText (Certified certificate) text = text ≡ []
 IsErrorText Accepted text = text ≡ []
@@ -185,6 +221,7 @@ failure_view (failures.Input number place) = BadInput number place
 failure_view (failures.Run number at) = Faulted number at
 failure_view (failures.Strand number name) = FaultedIn number (let n = name in n.items)
 failure_view (failures.Script at) = BadScript at
+failure_view (failures.Unmade skip) = Unmade skip
 failure_view (failures.Trace number at) = BadTrace number at
 failure_view (failures.Changed name) = Changed name.now
 failure_view failures.Memory = NoMemory

@@ -9,6 +9,7 @@ use Rattle.cilk_commands.specs.Replies.{BadWords, IsErrorText, NoMemory, Reply, 
 use Rattle.cilk_commands.specs.Shown.{CertifyShows, CheckShows, InputFails, PlayShows, ProgramFails, RunShows, SettleShows}
 use Rattle.cilk_commands.specs.Streams.{AppendsFront, AppendsPart}
 use Rattle.cilk_commands.specs.Traces.{JudgeShows}
+use Rattle.cilk_messages.specs.declared.words.Manner.{Manner}
 use Rattle.cilk_messages.specs.Words.{Requested, Certify, Check, File, Judge, Play, Run, Settle, Origin, Standard, order_in}
 
 -- standard input gives the text: all of it, up to the limit
@@ -103,10 +104,10 @@ abbrev pub CheckReply : Surroundings → Text → Text → Option Text → Reply
 CheckReply w program certificate input r =
     JudgedReply (CheckShows certificate (w.files certificate) w.failed w.failed') w (File program) input r
 
--- the reply to `play` with this many workers; the script is read after the two texts are judged
-abbrev pub PlayReply : Surroundings → Text → Text → ℕ → Option Text → Reply → Type 0
-PlayReply w program script workers input r =
-    JudgedReply (PlayShows script (w.files script) w.failed w.failed' workers) w (File program) input r
+-- the reply to `play` in this manner; the script is read after the two texts are judged
+abbrev pub PlayReply : Surroundings → Text → Text → Manner → Option Text → Reply → Type 0
+PlayReply w program script manner input r =
+    JudgedReply (PlayShows script (w.files script) w.failed w.failed' manner) w (File program) input r
 
 -- the reply to `settle`; after both texts no file is read
 abbrev pub SettleReply : Surroundings → Text → Option Text → Reply → Type 0
@@ -128,7 +129,7 @@ ReadsStandard _ = ⊥
 
 -- an order to play has one worker or more
 abbrev pub HasWorkers : Option Requested → Type 0
-HasWorkers (Some (Play program script workers input)) = 0 < workers
+HasWorkers (Some (Play program script manner input)) = 0 < manner.workers
 HasWorkers _ = Unit {0}
 
 -- the reply to words that are no order
@@ -143,7 +144,7 @@ Answers w None r = (w.failed' ≡ w.failed) × WordsFail r
 Answers w (Some (Run program input)) r = RunReply w program input r
 Answers w (Some (Certify program input)) r = CertifyReply w program input r
 Answers w (Some (Check program certificate input)) r = CheckReply w program certificate input r
-Answers w (Some (Play program script workers input)) r = PlayReply w program script workers input r
+Answers w (Some (Play program script manner input)) r = PlayReply w program script manner input r
 Answers w (Some (Settle program input)) r = SettleReply w program input r
 Answers w (Some (Judge trace sites)) r = JudgeReply w trace r
 

@@ -1,15 +1,15 @@
 -- The replies to texts with a fault, to runs, to certificates and to scripts.
-use Rattle.std.specs.Prelude.{◌≡◌, ◌≢◌, ◌⊎◌, ℕ, ℤ, List, Option, Some, None}
+use Rattle.std.specs.Prelude.{◌≡◌, ◌≢◌, ◌⊎◌, ℕ, ℤ, Bool, true, false, List, Option, Some, None}
 use Rattle.cilk_types.specs.Fault as run_faults
 use Rattle.cilk_types.specs.declared.event.Event.{Event}
 use Rattle.cilk_types.specs.declared.fault.Fault.{Fault}
 use Rattle.cilk_types.specs.declared.outcome.Outcome.{Outcome}
-use Rattle.cilk_parser.specs.Inputs.{IsInputFault}
+use Rattle.cilk_parser.specs.Inputs.{IsInput, IsInputFault}
 use Rattle.cilk_parser.specs.Texts as texts
 use Rattle.cilk_parser.specs.declared.fault.TextFault.{TextFault}
 use Rattle.cilk_parser.specs.declared.fault.TextFault.TheVariants as text_faults
 use Rattle.cilk_names.specs.Faults as names
-use Rattle.cilk_checker.specs.Judging.{IsProgramFault, Meant}
+use Rattle.cilk_checker.specs.Judging.{IsProgramFault, IsProgramText, Meant}
 use Rattle.cilk_checker.specs.declared.fault.ProgramFault.{ProgramFault}
 use Rattle.cilk_checker.specs.declared.fault.ProgramFault.TheVariants as program_faults
 use Rattle.cilk_serial.specs.Ran.{Ran, IsRunFault}
@@ -31,9 +31,15 @@ use Rattle.cilk_checker.specs.declared.settle.FirstRace.{FirstRace}
 use Rattle.cilk_checker.specs.declared.settle.FirstRace.TheVariants.{Determinacy, ViewRead}
 use Rattle.cilk_schedule.specs.declared.fault.PlayFault.{PlayFault}
 use Rattle.cilk_schedule.specs.declared.fault.PlayFault.TheVariants as play_faults
+use Rattle.cilk_schedule.specs.declared.unmade.Skips.{Skips}
+use Rattle.cilk_schedule.specs.declared.unmade.StrictFault.{StrictFault}
+use Rattle.cilk_schedule.specs.declared.unmade.StrictFault.TheVariants as strict_faults
 use Rattle.cilk_schedule.specs.Playing.{Ends, IsLeft, LeavesAsSettled, Passed, StopsBy}
+use Rattle.cilk_schedule.specs.Strict.{AreSkips, IsFirstSkip, IsStrict, tasks_within}
+use Rattle.cilk_parser.specs.declared.script_choices.TheConstants.{MAX_CHOICES}
+use Rattle.cilk_messages.specs.declared.words.Manner.{Manner}
 use Rattle.cilk_commands.specs.Files.{Failures, HasFailed, HoldsTo, IsHeld, IsUnfailed}
-use Rattle.cilk_commands.specs.Replies.{Accepted, BadInput, BadProgram, BadScript, Certified, Ended, Faulted, FaultedIn, NoMemory, NotEnded, Refused, Reply, Settled, Text, Unreadable, places_of}
+use Rattle.cilk_commands.specs.Replies.{Accepted, BadInput, BadProgram, BadScript, Certified, Ended, Faulted, FaultedIn, NoMemory, NotEnded, Refused, Reply, Settled, Text, Unmade, Unreadable, places_of}
 
 abbrev pub program_fault_view : ProgramFault → Reply
 program_fault_view program_faults.Memory = NoMemory
@@ -52,6 +58,10 @@ abbrev pub play_fault_view : PlayFault → Reply
 play_fault_view play_faults.Memory = NoMemory
 play_fault_view (play_faults.Line at) = BadScript at
 play_fault_view (play_faults.Stop fault name) = FaultedIn (run_faults.number_of fault) (let n = name in n.items)
+
+abbrev pub strict_fault_view : StrictFault → Reply
+strict_fault_view (strict_faults.Skipped skip) = Unmade skip
+strict_fault_view (strict_faults.Play fault) = play_fault_view fault
 
 -- the reply to a program text with a fault
 abbrev pub ProgramFails : Text → Reply → Type 0
@@ -109,6 +119,11 @@ ScriptFails text (BadScript at) = IsNoScript text at
 ScriptFails text NoMemory = Unit {0}
 ScriptFails text _ = ⊥
 
+-- the reply to a script that is played to its end: the outcome, if the run has ended
+abbrev pub left_view : Meant → Option Outcome → Reply
+left_view m (Some o) = Ended m.names o
+left_view m None = NotEnded
+
 -- The reply to the steps of a script, with one or more workers: their one end. It is the run's
 -- outcome, a run that hasn't ended, the line whose choices go past the limit, or the fault of a
 -- choice with its strand. If one serial run settles every parallel one, an outcome is that run's,
@@ -123,14 +138,37 @@ StepsShow workers steps m inputs (FaultedIn number name) =
 StepsShow workers steps m inputs NoMemory = Unit {0}
 StepsShow workers steps m inputs _ = ⊥
 
+-- the choices that are skipped of a script's text, which is played with this many workers, by the texts of a
+-- program and its input
+abbrev pub SkipsShow : Text → Text → ℕ → Text → Skips → Type 0
+SkipsShow source numbers workers script skips =
+    (p : Meant) × IsProgramText source p × ((inputs : List ℤ) × IsInput numbers inputs × ((steps : List Step) × IsScript script steps
+    × AreSkips p.source inputs workers (tasks_within MAX_CHOICES steps) skips))
+
+-- The reply to the steps of a script each of whose choices has to be made: the first that can't be made, by
+-- its line, and why; or, if there is none, the reply to the steps.
+abbrev pub StrictlyShow : ℕ → List Step → Meant → List ℤ → Reply → Type 0
+StrictlyShow workers steps m inputs (Unmade skip) = IsFirstSkip m.source inputs workers (tasks_within MAX_CHOICES steps) skip
+StrictlyShow workers steps m inputs NoMemory = Unit {0}
+StrictlyShow workers steps m inputs r = StepsShow workers steps m inputs r × IsStrict m.source inputs workers steps
+
+-- the reply to the steps of a script that is played strictly, or isn't
+abbrev pub PlayedShow : (is_strict : Bool) → ℕ → List Step → Meant → List ℤ → Reply → Type 0
+PlayedShow true workers steps m inputs r = StrictlyShow workers steps m inputs r
+PlayedShow false workers steps m inputs r = StepsShow workers steps m inputs r
+
+-- the reply to the steps of a script that is played in this manner
+abbrev pub MannerShows : Manner → List Step → Meant → List ℤ → Reply → Type 0
+MannerShows manner steps m inputs r = PlayedShow manner.is_strict manner.workers steps m inputs r
+
 -- the reply to a script's text: its wrong line, or the reply to its steps
-abbrev pub TextShows : ℕ → Text → Meant → List ℤ → Reply → Type 0
-TextShows workers text m inputs r = ScriptFails text r ⊎ ((steps : List Step) × IsScript text steps × StepsShow workers steps m inputs r)
+abbrev pub TextShows : Manner → Text → Meant → List ℤ → Reply → Type 0
+TextShows manner text m inputs r = ScriptFails text r ⊎ ((steps : List Step) × IsScript text steps × MannerShows manner steps m inputs r)
 
 -- The reply to the script in the file of this path: the file can't be read; or there is no memory, or
 -- the reply to its text, and no read failed. `known`, `failed` and `failed'` are as above.
-abbrev pub PlayShows : Text → Option Text → Failures → Failures → ℕ → Meant → List ℤ → Reply → Type 0
-PlayShows path known failed failed' workers m inputs (Unreadable name) = (name ≡ path) × HasFailed path failed failed'
-PlayShows path known failed failed' workers m inputs NoMemory = failed' ≡ failed
-PlayShows path known failed failed' workers m inputs r =
-    (failed' ≡ failed) × ((text : Text) × IsHeld known text × TextShows workers text m inputs r)
+abbrev pub PlayShows : Text → Option Text → Failures → Failures → Manner → Meant → List ℤ → Reply → Type 0
+PlayShows path known failed failed' manner m inputs (Unreadable name) = (name ≡ path) × HasFailed path failed failed'
+PlayShows path known failed failed' manner m inputs NoMemory = failed' ≡ failed
+PlayShows path known failed failed' manner m inputs r =
+    (failed' ≡ failed) × ((text : Text) × IsHeld known text × TextShows manner text m inputs r)

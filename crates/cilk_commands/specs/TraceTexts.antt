@@ -2,8 +2,7 @@
 use Rattle.std.specs.Prelude.{◌≡◌, ◌⊎◌, ℕ, ◌+◌, List, [], ◌∷◌, ◌++◌, length, Option, Some, IfSome}
 use Rattle.cilk_trace.specs.declared.line.Line.{Line}
 use Rattle.cilk_trace.specs.declared.judge.Verdict.{Verdict}
-use Rattle.cilk_trace.specs.declared.survey.Known.{Known}
-use Rattle.cilk_trace.specs.Surveys.{IsTrace, IsKnownOf, KeepsLimits}
+use Rattle.cilk_trace.specs.Surveys.{IsTrace, KeepsLimits}
 use Rattle.cilk_trace.specs.Judging.{IsJudged}
 use Rattle.cilk_trace.specs.declared.fault.TraceFault.TheVariants.{Malformed, Truncated}
 use Rattle.cilk_trace.specs.Forms.{reading_of}
@@ -47,18 +46,6 @@ pub record HasVerdict (text : List ℕ) (v : Verdict) : Type 0 where
   pub spells : IsTraceText text lines
   pub limits : KeepsLimits lines
   pub judged : IsJudged lines v
-
--- the text is that of a trace with these facts
-pub record HasSurvey (text : List ℕ) (k : Known) : Type 0 where
-  pub lines : List Line
-  pub spells : IsTraceText text lines
-  pub known : IsKnownOf lines k
-
--- the text is that of a trace
-pub record IsTraceOf (text : List ℕ) : Type 0 where
-  pub lines : List Line
-  pub spells : IsTraceText text lines
-  pub trace : IsTrace lines
 
 -- a source gives a text with this property: the known one, if it is known
 abbrev pub GivesText : Option (List ℕ) → (List ℕ → Type 0) → Type 0

@@ -1,6 +1,7 @@
 //! `settle` for every input that agrees with a program's own at some positions.
 
 ghost use Rattle.std.specs.Prelude.{◌≡◌, ◌+◌, ◌<◌, ◌≤◌, ℕ, ◌++◌, IfOk, IfSome, List, None, Some, option_map};
+ghost use Rattle.cilk_checker.specs.Every.{IsVerdictOnEvery};
 ghost use Rattle.cilk_checker.specs.Judging.{meant};
 ghost use Rattle.cilk_commands.specs.Every.{ClaimReply, HoldsOnEvery, claimed_text, finding_view, fixed_from, line_behind, reply_view};
 ghost use Rattle.cilk_commands.specs.Replies.{answer_view, line, out_text};
@@ -10,6 +11,7 @@ ghost use Rattle.cilk_commands.specs.Streams.{TakesAtMost};
 ghost use Rattle.cilk_commands.specs.declared.streams.TheConstants.{MAX_READ};
 ghost use Rattle.cilk_messages.specs.Claims.{every_text};
 ghost use Rattle.cilk_oblivious.specs.Cursors.{hidden_of};
+ghost use Rattle.cilk_program.specs.Sources.{source};
 
 use crate::counted::CountedRead;
 use crate::files::Files;
@@ -17,14 +19,16 @@ use crate::programs::{names, refusal};
 use crate::render;
 use crate::reply::{Answer, Failure};
 use crate::running::given;
-use cilk_checker::every::{Every, Finding, settle_every};
+use cilk_checker::ending::{End, run_to_end};
+use cilk_checker::every::{Every, Finding, settle_ended};
 use cilk_depends::graph::Place;
-use cilk_depends::search::{Found, search};
+use cilk_depends::search::{Found, Run, search};
 use cilk_messages::claim::{Claim, push_every};
 use cilk_messages::positions::flags_of;
 use cilk_messages::words::Origin;
 use cilk_program::program::Program;
 use cilk_types::input::Input;
+use cilk_types::trace::Trace;
 use std::alloc::{AllocError, Global};
 
 /// The reply to `settle`, what is claimed of other inputs, how many numbers the input has, and the places of
@@ -110,11 +114,12 @@ struct Split {
     places: Vec<Place>,
 }
 
-// Hides all numbers but those that a list names; without one, all that decide nothing.
+// Hides all numbers but those that a list names; without one, all that decide nothing in the run.
 fn divided(
     alloc: Global,
     program: &Program,
     input: &Input,
+    run: Run<'_>,
     fix: Option<&str>,
 ) -> Result<Split, AllocError> {
     let count = input.as_slice().len();
@@ -123,13 +128,29 @@ fn divided(
         Some(list) => named = flags_of(alloc, list, count)?,
         None => named.resize(count, false)?,
     }
-    let Found { decides, places } = search(alloc, program, input, named.as_slice())?;
+    let Found { decides, places } = search(alloc, program, input, run, named.as_slice())?;
     let fixed = if fix.is_some() { named } else { decides };
     let mut hidden = Vec::new(alloc);
     for flag in fixed.as_slice() {
         hidden.push(!*flag)?;
     }
     Ok(Split { hidden, places })
+}
+
+// The run that has ended so, with these events.
+fn run_of<'a>(ending: &'a End, trace: &'a Trace) -> Run<'a> {
+    match ending {
+        End::Left(_, frames, code) => Run {
+            code,
+            events: trace.as_slice(),
+            frames: frames.as_slice(),
+        },
+        End::Stopped(_, frames, code) => Run {
+            code,
+            events: trace.as_slice(),
+            frames: frames.as_slice(),
+        },
+    }
 }
 
 /// Settles a program on an input, and says of which other inputs the same holds: of those that agree where
@@ -143,42 +164,51 @@ pub fn settle_given<'a>(
     ensures reply { SettleShows (meant program.now) input.now (reply_view result.reply) }
     ensures claim { IfSome result.claim (HoldsOnEvery (meant program.now) input.now (reply_view result.reply)) }
 {
-    match divided(alloc, program, input, fix) {
-        Ok(split) => settle_split(alloc, program, input, split),
+    match settle_by_search(alloc, program, input, fix) {
+        Ok(reply) => reply,
         Err(AllocError) => EveryReply::of(alloc, Err(Failure::Memory)),
     }
 }
 
-fn settle_split<'a>(alloc: Global, program: &Program, input: &Input, split: Split) -> EveryReply<'a>
-    ensures reply { SettleShows (meant program.now) input.now (reply_view result.reply) }
-    ensures claim { IfSome result.claim (HoldsOnEvery (meant program.now) input.now (reply_view result.reply)) }
-{
-    let Split { hidden, places } = split;
-    match settle_hidden(alloc, program, input, hidden.as_slice()) {
-        Ok((reply, claim)) => EveryReply {
-            reply,
-            claim,
-            numbers: input.as_slice().len(),
-            places,
-        },
-        Err(AllocError) => EveryReply::of(alloc, Err(Failure::Memory)),
-    }
-}
-
-// Settles a program on an input, and says whether the same holds wherever these positions are hidden.
-fn settle_hidden<'a>(
+// The same, if memory suffices.
+fn settle_by_search<'a>(
     alloc: Global,
     program: &Program,
     input: &Input,
+    fix: Option<&str>,
+) -> Result<EveryReply<'a>, AllocError>
+    ensures reply { IfOk result (λ r. SettleShows (meant program.now) input.now (reply_view r.reply)) }
+    ensures claim { IfOk result (λ r. IfSome r.claim (HoldsOnEvery (meant program.now) input.now (reply_view r.reply))) }
+{
+    let (ending, trace) = run_to_end(alloc, program, input)?;
+    let run = run_of(&ending, &trace);
+    let Split { hidden, places } = divided(alloc, program, input, run, fix)?;
+    let every = settle_ended(alloc, program, input, ending, &trace, hidden.as_slice())?;
+    let (reply, claim) = settled(alloc, program, input, every, hidden.as_slice())?;
+    Ok(EveryReply {
+        reply,
+        claim,
+        numbers: input.as_slice().len(),
+        places,
+    })
+}
+
+// The reply that says what was found, and whether the same holds wherever these positions are hidden.
+fn settled<'a>(
+    alloc: Global,
+    program: &Program,
+    input: &Input,
+    every: Every,
     hidden: &[bool],
 ) -> Result<(Result<Answer, Failure<'a>>, Option<Claim>), AllocError>
+    requires { IsVerdictOnEvery (source program.now) input.now (hidden_of hidden.now) every }
     ensures reply { IfOk result (λ r. SettleShows (meant program.now) input.now (reply_view r.0)) }
     ensures claim { IfOk result (λ r. IfSome r.1 (HoldsOnEvery (meant program.now) input.now (reply_view r.0))) }
 {
     let Every {
         finding,
         is_on_every,
-    } = settle_every(alloc, program, input, hidden)?;
+    } = every;
     let reply = found(alloc, program, finding)?;
     if !is_on_every {
         return Ok((reply, None));
@@ -266,8 +296,8 @@ pub fn behind(
     ensures { IfOk result (λ text. text.items ≡ line_behind claim.now (reply_view reply.now)) }
 {
     match reply {
-        Ok(Answer::Refused(_)) => same_on(alloc, b"the same race on ", claim),
-        Err(Failure::Run { .. }) => same_on(alloc, b"the same fault on ", claim),
+        Ok(Answer::Refused(_)) => same_on(alloc, b"the first race is the same on ", claim),
+        Err(Failure::Run { .. }) => same_on(alloc, b"the fault is the same on ", claim),
         Ok(_) | Err(_) => Ok(Vec::new(alloc)),
     }
 }

@@ -1,19 +1,16 @@
-//! The command `judge`. A trace's file is read twice, in parts, and nothing of it is kept.
+//! The command `judge`. A trace's file is read once, in parts, and nothing of it is kept.
 
-ghost use Rattle.std.specs.Prelude.{◌≡◌, ◌<◌, IfOk, IfErr, OnOk};
-ghost use Rattle.cilk_commands.specs.Files.{IsUnfailed};
+ghost use Rattle.std.specs.Prelude.{◌≡◌, ◌<◌, IfOk, IfErr};
 ghost use Rattle.cilk_commands.specs.Replies.{answer_view, failure_view};
 ghost use Rattle.cilk_commands.specs.Traces.{IsNumbered, JudgeShows, unjudged_view, verdict_view};
-ghost use Rattle.cilk_commands.specs.TraceTexts.{GivesText, HasSurvey, HasVerdict};
 
 use crate::files::Files;
 use crate::parts::PartSource;
 use crate::reply::{Answer, Failure};
 use crate::trace_fault::Unjudged;
-use crate::trace_texts::{judge_text, survey_text};
+use crate::trace_texts::judge_text;
 use cilk_checker::refusal::Refusal;
 use cilk_trace::judge::Verdict;
-use cilk_trace::survey::Known;
 use std::alloc::Global;
 
 /// The number of a malformed trace, as of a malformed certificate.
@@ -35,7 +32,6 @@ fn unjudged<'a>(fault: Unjudged, path: &'a str) -> Failure<'a>
             number: TRUNCATED,
             line,
         },
-        Unjudged::Changed => Failure::Changed(path),
         Unjudged::Unread => Failure::Unreadable(path),
         Unjudged::Memory => Failure::Memory,
     }
@@ -59,42 +55,9 @@ fn shown(verdict: Verdict) -> Answer
     }
 }
 
-// Reads a trace's file for the first time.
-fn surveyed<'a, F: Files>(alloc: Global, path: &'a str, files: &mut F) -> Result<Known, Failure<'a>>
-    requires { (F.failed files.old).count < 18446744073709551615 }
-    ensures known { IfOk result (λ k. GivesText (F.holds files.old path.entry.now) (λ text. HasSurvey text k)) }
-    ensures failure { IfErr result (λ e. JudgeShows path.entry.now (F.holds files.old path.entry.now) (F.failed files.old) (F.failed files.new) (failure_view e)) }
-    ensures unfailed { OnOk result (IsUnfailed (F.failed files.old) (F.failed files.new) path.entry.now) }
-    ensures same { OnOk result (F.holds files.new path.entry.now ≡ F.holds files.old path.entry.now) }
-{
-    let mut source = PartSource::new(files, path, path);
-    match survey_text(alloc, &mut source) {
-        Ok(known) => Ok(known),
-        Err(fault) => Err(unjudged(fault, path)),
-    }
-}
-
-// Reads a trace's file for the second time, and judges it.
-fn judged<'a, F: Files>(
-    alloc: Global,
-    path: &'a str,
-    known: &Known,
-    files: &mut F,
-) -> Result<Answer, Failure<'a>>
-    requires counts { (F.failed files.old).count < 18446744073709551615 }
-    requires surveyed { GivesText (F.holds files.old path.now) (λ text. HasSurvey text known.now) }
-    ensures answer { IfOk result (λ a. JudgeShows path.entry.now (F.holds files.old path.entry.now) (F.failed files.old) (F.failed files.new) (answer_view a)) }
-    ensures failure { IfErr result (λ e. JudgeShows path.entry.now (F.holds files.old path.entry.now) (F.failed files.old) (F.failed files.new) (failure_view e)) }
-{
-    let mut source = PartSource::new(files, path, path);
-    match judge_text(alloc, known, &mut source) {
-        Ok(verdict) => Ok(shown(verdict)),
-        Err(fault) => Err(unjudged(fault, path)),
-    }
-}
-
-/// Judges the trace in a file. Memory: 33 to 59 bytes a strand of the trace (measured), and 16 for each
-/// cell of the pages of 4,096 that it accesses.
+/// Judges the trace in a file, in one reading. Memory: a byte for each mark of the trace, 8 bytes for each
+/// grain of 8, 4, 2 or 1 cells of the pages of 4,096 that it accesses; some 30 a strand only where
+/// another strand than a reducer's creator reads its view.
 pub fn judge<'a, F: Files>(
     alloc: Global,
     trace: &'a str,
@@ -104,6 +67,9 @@ pub fn judge<'a, F: Files>(
     ensures answer { IfOk result (λ a. JudgeShows trace.entry.now (F.holds files.old trace.entry.now) (F.failed files.old) (F.failed files.new) (answer_view a)) }
     ensures failure { IfErr result (λ e. JudgeShows trace.entry.now (F.holds files.old trace.entry.now) (F.failed files.old) (F.failed files.new) (failure_view e)) }
 {
-    let known = surveyed(alloc, trace, files)?;
-    judged(alloc, trace, &known, files)
+    let mut source = PartSource::new(files, trace, trace);
+    match judge_text(alloc, &mut source) {
+        Ok(verdict) => Ok(shown(verdict)),
+        Err(fault) => Err(unjudged(fault, trace)),
+    }
 }

@@ -13,7 +13,8 @@
 //! | [`carry_out`] | the answer to one order, not yet shown |
 //! | [`given`] | a program and its input, read and judged |
 //! | [`settle`] | the answer to an order to settle a program |
-//! | [`trace_texts::judge`] | the verdict on the text of a trace, which is read twice |
+//! | [`skips`], [`skips_text`] | the choices that are skipped of a script, and a line about them |
+//! | [`trace_texts::judge_text`] | the verdict on the text of a trace |
 //! | [`disk::Disk`] | the files of the system |
 //! | [`counted::CountedReader`] | a reader that counts its reads, as standard input has to be |
 //! | [`parts::PartSource`] | a file as a source of a certificate's or a trace's text |
@@ -24,7 +25,7 @@
 //! |---|---|
 //! | 0 | an answer |
 //! | 2 | wrong words, a text with a fault, a file that can't be read, or a failed write |
-//! | 3 | the program's run faults |
+//! | 3 | the program's run faults, or a choice of a script that has to be made can't be |
 //! | 4 | a certificate is refused, or a program or a trace has a race |
 //! | 5 | out of memory |
 //!
@@ -52,6 +53,7 @@ pub mod trace_pieces;
 pub mod trace_texts;
 
 pub use counted::{CountedRead, CountedReader};
-pub use programs::{input, names, stopped};
+pub use programs::{input, names, skips, stopped};
+pub use render::skips as skips_text;
 pub use running::{given, read_file, refused, settle};
 pub use serving::{Served, carry_out, complain, serve, serve_and_tell, show, tell};

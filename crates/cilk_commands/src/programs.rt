@@ -2,9 +2,9 @@
 
 ghost use Rattle.std.specs.Prelude.{◌≡◌, ◌<◌, IfOk, IfErr, map};
 ghost use Rattle.cilk_checker.specs.Judging.{IsProgramText, meant};
-ghost use Rattle.cilk_commands.specs.Replies.{answer_view, failure_view};
+ghost use Rattle.cilk_commands.specs.Replies.{NoMemory, answer_view, failure_view};
 ghost use Rattle.cilk_parser.specs.Scripts.{IsScript};
-ghost use Rattle.cilk_commands.specs.Shown.{CertifyShows, InputFails, ProgramFails, RunShows, SettleShows, ScriptFails, StepsShow, TextShows, play_fault_view, refusal_of, run_fault_view};
+ghost use Rattle.cilk_commands.specs.Shown.{CertifyShows, InputFails, MannerShows, ProgramFails, RunShows, SettleShows, ScriptFails, SkipsShow, StepsShow, StrictlyShow, TextShows, left_view, play_fault_view, refusal_of, run_fault_view, strict_fault_view};
 ghost use Rattle.cilk_parser.specs.Inputs.{IsInput};
 
 use crate::reply::{Answer, Failure};
@@ -13,14 +13,16 @@ use cilk_checker::fault::ProgramFault;
 use cilk_checker::judge;
 use cilk_checker::refusal::Refusal;
 use cilk_checker::settle::{FirstRace, Verdict, settle as settle_run};
+use cilk_messages::words::Manner;
 use cilk_parser::fault::TextFault;
 use cilk_parser::input::parse_input;
 use cilk_parser::script::{ScriptFault, Step, read};
 use cilk_program::program::{GlobalReducer, Program};
-use cilk_schedule::{PlayFault, play_steps};
+use cilk_schedule::{PlayFault, Skips, StrictFault, play_counting, play_steps, play_strictly};
 use cilk_serial::fault::RunFault;
 use cilk_serial::run::run as run_serially;
 use cilk_types::input::Input;
+use cilk_types::outcome::Outcome;
 use cilk_types::sequence::Sequence;
 use std::alloc::{AllocError, Global};
 
@@ -166,6 +168,24 @@ fn unplayed<'a>(fault: PlayFault) -> Failure<'a>
     }
 }
 
+// The answer to a script that is played to its end: the outcome, if the run has ended.
+fn left<'a>(
+    alloc: Global,
+    program: &Program,
+    outcome: Option<Outcome>,
+) -> Result<Answer, Failure<'a>>
+    ensures ok { IfOk result (λ a. answer_view a ≡ left_view (meant program.now) outcome) }
+    ensures err { IfErr result (λ e. failure_view e ≡ NoMemory) }
+{
+    match outcome {
+        Some(outcome) => Ok(Answer::Outcome {
+            names: names(alloc, program.reducers.as_slice())?,
+            outcome,
+        }),
+        None => Ok(Answer::NotEnded),
+    }
+}
+
 // Plays the steps of a script with `workers` workers, at least 1.
 fn steps_left<'a>(
     alloc: Global,
@@ -179,27 +199,92 @@ fn steps_left<'a>(
     ensures err { IfErr result (λ e. StepsShow workers steps.now (meant program.now) input.now (failure_view e)) }
 {
     match play_steps(alloc, program, input, workers, steps) {
-        Ok(Some(outcome)) => Ok(Answer::Outcome {
-            names: names(alloc, program.reducers.as_slice())?,
-            outcome,
-        }),
-        Ok(None) => Ok(Answer::NotEnded),
+        Ok(outcome) => left(alloc, program, outcome),
         Err(fault) => Err(unplayed(fault)),
     }
 }
 
-/// Plays the script of a text with `workers` workers, at least 1.
-pub fn script<'a>(
+// The failure that shows why a script wasn't played strictly to its end.
+fn unmade<'a>(fault: StrictFault) -> Failure<'a>
+    ensures { failure_view result ≡ strict_fault_view fault }
+{
+    match fault {
+        StrictFault::Skipped(skip) => Failure::Unmade(skip),
+        StrictFault::Play(fault) => unplayed(fault),
+    }
+}
+
+// Plays the steps of a script with `workers` workers, at least 1, up to the first choice that can't be
+// made.
+fn strictly_left<'a>(
     alloc: Global,
     program: &Program,
     input: &Input,
     workers: u32,
-    text: &[u8],
+    steps: &[Step],
 ) -> Result<Answer, Failure<'a>>
     requires { 0 < workers }
-    ensures ok { IfOk result (λ a. TextShows workers text.now (meant program.now) input.now (answer_view a)) }
-    ensures err { IfErr result (λ e. TextShows workers text.now (meant program.now) input.now (failure_view e)) }
+    ensures ok { IfOk result (λ a. StrictlyShow workers steps.now (meant program.now) input.now (answer_view a)) }
+    ensures err { IfErr result (λ e. StrictlyShow workers steps.now (meant program.now) input.now (failure_view e)) }
+{
+    match play_strictly(alloc, program, input, workers, steps) {
+        Ok(outcome) => left(alloc, program, outcome),
+        Err(fault) => Err(unmade(fault)),
+    }
+}
+
+// Plays the steps of a script in a manner with at least 1 worker.
+fn manner_left<'a>(
+    alloc: Global,
+    program: &Program,
+    input: &Input,
+    manner: Manner,
+    steps: &[Step],
+) -> Result<Answer, Failure<'a>>
+    requires { 0 < manner.workers }
+    ensures ok { IfOk result (λ a. MannerShows manner steps.now (meant program.now) input.now (answer_view a)) }
+    ensures err { IfErr result (λ e. MannerShows manner steps.now (meant program.now) input.now (failure_view e)) }
+{
+    if manner.is_strict {
+        strictly_left(alloc, program, input, manner.workers, steps)
+    } else {
+        steps_left(alloc, program, input, manner.workers, steps)
+    }
+}
+
+/// Plays the script of a text in a manner with at least 1 worker.
+pub fn script<'a>(
+    alloc: Global,
+    program: &Program,
+    input: &Input,
+    manner: Manner,
+    text: &[u8],
+) -> Result<Answer, Failure<'a>>
+    requires { 0 < manner.workers }
+    ensures ok { IfOk result (λ a. TextShows manner text.now (meant program.now) input.now (answer_view a)) }
+    ensures err { IfErr result (λ e. TextShows manner text.now (meant program.now) input.now (failure_view e)) }
 {
     let steps = steps(alloc, text)?;
-    steps_left(alloc, program, input, workers, steps.as_slice())
+    manner_left(alloc, program, input, manner, steps.as_slice())
+}
+
+/// Returns the choices that are skipped of a script's text, which is played with `workers` workers, at
+/// least 1, by the texts of a program and its input.
+pub fn skips<'a>(
+    alloc: Global,
+    source: &[u8],
+    numbers: &[u8],
+    workers: u32,
+    script: &[u8],
+) -> Result<Skips, Failure<'a>>
+    requires { 0 < workers }
+    ensures { IfOk result (λ skips. SkipsShow source.now numbers.now workers script.now skips) }
+{
+    let program = program(alloc, source)?;
+    let input = input(alloc, numbers)?;
+    let steps = steps(alloc, script)?;
+    match play_counting(alloc, &program, &input, workers, steps.as_slice()) {
+        Ok(played) => Ok(played.skips),
+        Err(fault) => Err(unplayed(fault)),
+    }
 }

@@ -3,9 +3,10 @@
 ghost use Rattle.std.specs.Prelude.{◌≡◌, ◌++◌, [], ◌∷◌, codes, decimal, flat_map, OnOk, IfOk};
 ghost use Rattle.std.specs.Fmt.{signed_decimal};
 ghost use Rattle.cilk_checker.specs.Numbers.{fields_of, number_of};
-ghost use Rattle.cilk_commands.specs.Replies.{number_line, element, elements, reducer_line, reducer_lines, outcome_text, place_line, place_text, places_of, race_free_line, refused_line, line, script_line, strand_line, strand_text};
+ghost use Rattle.cilk_commands.specs.Replies.{number_line, choice_text, element, elements, reason_text, reducer_line, reducer_lines, outcome_text, place_line, place_text, places_of, race_free_line, refused_line, line, script_line, skip_text, skips_text, strand_line, strand_text, worker_of};
 
 use cilk_checker::refusal::{Fields, Refusal};
+use cilk_schedule::{Choice, Reason, Skip, Skips};
 use cilk_types::outcome::{Final, Outcome};
 use cilk_types::sequence::Sequence;
 use itoa::Buffer;
@@ -127,6 +128,105 @@ pub fn script(alloc: Global, at: usize) -> Result<Vec<u8>, AllocError>
     let mut text = Vec::from_slice(alloc, b"script at ")?;
     text.extend_from_slice(buffer.format(at).as_bytes())?;
     text.push(b'\n')?;
+    Ok(text)
+}
+
+fn push_count(text: &mut Vec<u8>, count: usize) -> Result<(), AllocError>
+    ensures { OnOk result (text.new.items ≡ text.old.items ++ decimal count) }
+{
+    let mut buffer = Buffer::new();
+    text.extend_from_slice(buffer.format(count).as_bytes())
+}
+
+// The worker of a choice.
+fn worker_of(choice: Choice) -> u32
+    ensures { result ≡ worker_of choice }
+{
+    match choice {
+        Choice::Run(worker) | Choice::Steal(worker, _) => worker,
+    }
+}
+
+// A choice, as a script has it.
+fn push_choice(text: &mut Vec<u8>, choice: Choice) -> Result<(), AllocError>
+    ensures { OnOk result (text.new.items ≡ text.old.items ++ choice_text choice) }
+{
+    match choice {
+        Choice::Run(worker) => {
+            text.extend_from_slice(b"run ")?;
+            push_count(text, worker as usize)
+        }
+        Choice::Steal(worker, place) => {
+            text.extend_from_slice(b"steal ")?;
+            push_count(text, worker as usize)?;
+            text.push(b' ')?;
+            push_count(text, place)
+        }
+    }
+}
+
+// Why a choice of a worker can't be made.
+fn push_reason(text: &mut Vec<u8>, worker: u32, reason: Reason) -> Result<(), AllocError>
+    ensures { OnOk result (text.new.items ≡ text.old.items ++ reason_text worker reason) }
+{
+    match reason {
+        Reason::NoWorker => {
+            text.extend_from_slice(b"there is no worker ")?;
+            push_count(text, worker as usize)
+        }
+        Reason::NoFrame => {
+            text.extend_from_slice(b"worker ")?;
+            push_count(text, worker as usize)?;
+            text.extend_from_slice(b" has no frame")
+        }
+        Reason::HasFrame => {
+            text.extend_from_slice(b"worker ")?;
+            push_count(text, worker as usize)?;
+            text.extend_from_slice(b" has a frame")
+        }
+        Reason::Offers(count) => {
+            text.extend_from_slice(b"the number of offers is ")?;
+            push_count(text, count)
+        }
+        Reason::Ended => text.extend_from_slice(b"the run has ended"),
+    }
+}
+
+/// Returns `choice at LINE: CHOICE, but REASON`.
+pub fn skip(alloc: Global, skip: Skip) -> Result<Vec<u8>, AllocError>
+    ensures { IfOk result (λ text. text.items ≡ skip_text skip) }
+{
+    let mut text = Vec::from_slice(alloc, b"choice at ")?;
+    push_count(&mut text, skip.line)?;
+    text.extend_from_slice(b": ")?;
+    push_choice(&mut text, skip.choice)?;
+    text.extend_from_slice(b", but ")?;
+    push_reason(&mut text, worker_of(skip.choice), skip.reason)?;
+    Ok(text)
+}
+
+/// Returns the same as a line.
+pub fn unmade(alloc: Global, unmade: Skip) -> Result<Vec<u8>, AllocError>
+    ensures { IfOk result (λ text. text.items ≡ line (skip_text unmade)) }
+{
+    let mut text = skip(alloc, unmade)?;
+    text.push(b'\n')?;
+    Ok(text)
+}
+
+/// Returns the line `skipped choices: N; first: ..`, or nothing if none was skipped.
+pub fn skips(alloc: Global, skips: Skips) -> Result<Vec<u8>, AllocError>
+    ensures { IfOk result (λ text. text.items ≡ skips_text skips.count skips.first) }
+{
+    let mut text = Vec::new(alloc);
+    if let Some(first) = skips.first {
+        let choice = skip(alloc, first)?;
+        text.extend_from_slice(b"skipped choices: ")?;
+        push_count(&mut text, skips.count as usize)?;
+        text.extend_from_slice(b"; first: ")?;
+        text.extend_from_slice(choice.as_slice())?;
+        text.push(b'\n')?;
+    }
     Ok(text)
 }
 

@@ -9,6 +9,7 @@ use crate::render;
 use crate::streams::{send, send_certificate};
 use cilk_cert_text::certificate::Certificate;
 use cilk_checker::refusal::Refusal;
+use cilk_schedule::Skip;
 use cilk_types::event::Pos;
 use cilk_types::outcome::Outcome;
 use cilk_types::sequence::Sequence;
@@ -18,7 +19,7 @@ use std::io::Write;
 /// The status if the words, a file or a text is wrong, or a write fails.
 pub const WRONG: u8 = 2;
 
-/// The status if the program's run faults.
+/// The status if the program's run faults, or a choice that has to be made can't be.
 pub const FAULTED: u8 = 3;
 
 /// The status if a certificate is refused, or a race is found.
@@ -91,6 +92,8 @@ pub enum Failure<'a> {
     Strand { number: u16, name: Vec<u32> },
     /// The first wrong line of a script, from 1: of another form, or with choices past the limit.
     Script(usize),
+    /// The first choice of a script that can't be made, where each has to be made.
+    Unmade(Skip),
     /// A fault of a trace at a line, counted from 1.
     Trace { number: u16, line: u32 },
     /// A file that changed between two readings.
@@ -119,6 +122,7 @@ impl Drop for Failure<'_> {
                 name: _name,
             } => {}
             Failure::Script(_) => {}
+            Failure::Unmade(_) => {}
             Failure::Trace { number: _, line: _ } => {}
             Failure::Changed(_) => {}
             Failure::Memory => {}
@@ -173,7 +177,8 @@ impl Answer {
 impl Failure<'_> {
     ghost use Rattle.cilk_commands.specs.Replies.{failure_view};
 
-    /// Returns 2 if words, files or texts are wrong, 3 if the run faults, and 5 for out of memory.
+    /// Returns 2 if words, files or texts are wrong, 3 if the run faults or a choice can't be made, and 5
+    /// for out of memory.
     pub fn status(&self) -> u8
         ensures { result ≡ status_of (failure_view self.now) }
     {
@@ -185,7 +190,7 @@ impl Failure<'_> {
             | Failure::Script(_)
             | Failure::Trace { .. }
             | Failure::Changed(_) => WRONG,
-            Failure::Run { .. } | Failure::Strand { .. } => FAULTED,
+            Failure::Run { .. } | Failure::Strand { .. } | Failure::Unmade(_) => FAULTED,
             Failure::Memory => NO_MEMORY,
         }
     }
@@ -202,6 +207,7 @@ impl Failure<'_> {
             Failure::Run { number, at } => render::place(alloc, b"fault", *number, *at as usize),
             Failure::Strand { number, name } => render::strand(alloc, *number, name.as_slice()),
             Failure::Script(line) => render::script(alloc, *line),
+            Failure::Unmade(skip) => render::unmade(alloc, *skip),
             Failure::Trace { number, line } => render::place(
                 alloc,
                 b"trace",

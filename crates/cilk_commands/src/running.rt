@@ -20,7 +20,7 @@ use crate::reply::{Answer, Failure};
 use crate::streams::receive;
 use cilk_checker::check::check_run;
 use cilk_checker::refusal::{Refusal, Unaccepted};
-use cilk_messages::words::Origin;
+use cilk_messages::words::{Manner, Origin};
 use cilk_program::program::Program;
 use cilk_types::input::Input;
 use std::alloc::Global;
@@ -250,47 +250,47 @@ pub fn check<'a, F: Files, R: CountedRead>(
     checked(alloc, program, input, certificate, files)
 }
 
-// The run of the script in a file, with `workers` workers, at least 1.
+// The run of the script in a file, in a manner with at least 1 worker.
 fn played<'a, F: Files>(
     alloc: Global,
     program: &Program,
     input: &Input,
     path: &'a str,
-    workers: u32,
+    manner: Manner,
     files: &mut F,
 ) -> Result<Answer, Failure<'a>>
-    requires some { 0 < workers }
+    requires some { 0 < manner.workers }
     requires room { (F.failed files.old).count < 18446744073709551615 }
     ensures answer { IfOk result (λ a. PlayShows path.entry.now (F.holds files.old path.entry.now) (F.failed files.old) (F.failed files.new)
-        workers (meant program.now) input.now (answer_view a)) }
+        manner (meant program.now) input.now (answer_view a)) }
     ensures failure { IfErr result (λ e. PlayShows path.entry.now (F.holds files.old path.entry.now) (F.failed files.old) (F.failed files.new)
-        workers (meant program.now) input.now (failure_view e)) }
+        manner (meant program.now) input.now (failure_view e)) }
 {
     let text = read_file(alloc, path, files)?;
-    programs::script(alloc, program, input, workers, text.as_slice())
+    programs::script(alloc, program, input, manner, text.as_slice())
 }
 
-/// Plays a script for a program and an input, with `workers` workers, at least 1. The script is read
+/// Plays a script for a program and an input, in a manner with at least 1 worker. The script is read
 /// after the two texts are judged.
 pub fn play<'a, F: Files, R: CountedRead>(
     alloc: Global,
     program: &'a str,
     script: &'a str,
-    workers: u32,
+    manner: Manner,
     input: Option<&'a str>,
     files: &mut F,
     reader: &mut R,
 ) -> Result<Answer, Failure<'a>>
-    requires some { 0 < workers }
+    requires some { 0 < manner.workers }
     requires room { (F.failed files.old).count < 18446744073709551615 }
     ensures answer { IfOk result (λ a. PlayReply (world (F.holds files.old) (R.remaining reader.old) (F.failed files.old) (F.failed files.new))
-        program.entry.now script.entry.now workers (option_map (λ p. p.now) input.entry) (answer_view a)) }
+        program.entry.now script.entry.now manner (option_map (λ p. p.now) input.entry) (answer_view a)) }
     ensures failure { IfErr result (λ e. PlayReply (world (F.holds files.old) (R.remaining reader.old) (F.failed files.old) (F.failed files.new))
-        program.entry.now script.entry.now workers (option_map (λ p. p.now) input.entry) (failure_view e)) }
+        program.entry.now script.entry.now manner (option_map (λ p. p.now) input.entry) (failure_view e)) }
     ensures untouched { reader.new ≡ reader.old }
     ensures most { TakesAtMost MAX_READ (R.remaining reader.old) (R.remaining reader.new) }
     ensures few { R.reads reader.new ≤ R.reads reader.old + MAX_READ }
 {
     let (program, input) = given(alloc, Origin::File(program), input, files, reader)?;
-    played(alloc, &program, &input, script, workers, files)
+    played(alloc, &program, &input, script, manner, files)
 }

@@ -54,9 +54,9 @@ pub fn carry_out<'a, F: Files, R: CountedRead>(
         Order::Play {
             program,
             script,
-            workers,
+            manner,
             input: numbers,
-        } => play(alloc, program, script, workers, numbers, files, input),
+        } => play(alloc, program, script, manner, numbers, files, input),
         Order::Settle {
             program,
             input: numbers,

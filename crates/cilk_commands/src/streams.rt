@@ -18,7 +18,8 @@ pub const MAX_READ: usize = MAX_TEXT + 1;
 
 const PIECE: usize = 4096;
 
-// The most bytes of a certificate's text in one write.
+// The most bytes of a certificate's text in one write, from a fixed array: a certificate that goes out
+// isn't cut off when memory runs out.
 const MAX_PIECE: usize = 16_384;
 
 // Reads once, and appends the bytes to the text. The count is 0 only at the end of the input.

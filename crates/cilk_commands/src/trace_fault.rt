@@ -11,15 +11,12 @@ use thiserror::Error;
 /// Why a trace isn't judged.
 #[derive(Clone, Copy, Debug, Error)]
 pub enum Unjudged {
-    /// This line of the first reading, counted from 1, isn't one that may be there.
+    /// This line, counted from 1, isn't one that may be there.
     #[error("malformed trace at line {line}")]
     Malformed { line: u32 },
-    /// The text of the first reading ends before the end of this line, counted from 1.
+    /// The text ends before the end of this line, counted from 1.
     #[error("truncated trace at line {line}")]
     Truncated { line: u32 },
-    /// The second reading is that of another text.
-    #[error("the trace has changed")]
-    Changed,
     /// A source's device failed.
     #[error("cannot read")]
     Unread,

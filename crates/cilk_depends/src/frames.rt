@@ -29,12 +29,12 @@ pub struct Frame {
 }
 
 impl Frame {
-    /// Begins a frame at a place in the code, with words.
-    pub fn new(alloc: Global, place: usize, words: Vec<Word>) -> Frame {
+    /// Begins a frame at a place in the code, without words.
+    pub fn new(alloc: Global, place: usize) -> Frame {
         Frame {
             begun: place,
             place,
-            words,
+            words: Vec::new(alloc),
             stack: Vec::new(alloc),
             held: plain(0),
             low: 0,
@@ -42,12 +42,28 @@ impl Frame {
         }
     }
 
-    /// Begins a frame of a loop's turns.
-    pub fn turns(alloc: Global, place: usize, low: i64, high: i64) -> Frame {
-        let mut frame = Frame::new(alloc, place, Vec::new(alloc));
-        frame.low = low;
-        frame.high = high;
-        frame
+    /// Begins such a frame in the room of this one.
+    pub fn again(self, place: usize) -> Frame {
+        let Frame {
+            begun: _,
+            place: _,
+            mut words,
+            mut stack,
+            held: _,
+            low: _,
+            high: _,
+        } = self;
+        words.clear();
+        stack.clear();
+        Frame {
+            begun: place,
+            place,
+            words,
+            stack,
+            held: plain(0),
+            low: 0,
+            high: 0,
+        }
     }
 
     /// Pops an operand. A run's frames have what their instructions pop.

@@ -23,39 +23,39 @@ pub enum Change<'a> {
 }
 
 /// Returns the branch at this byte of the text, if it is such an `if`, without an `else`, its condition is
-/// one comparison, and its statement can't fault where the condition doesn't hold: it has no divisor, and no
-/// index by a name that the condition compares.
+/// one comparison, and its statement has no divisor, and no index but numbers: where these are inside their
+/// arrays, it can't fault where the condition doesn't hold, either.
 pub fn branch_at(text: &[u8], at: usize) -> Option<Branch<'_>> {
     if word_at(text, at) != b"if".as_slice() {
         return None;
     }
-    let open = word_after(text, at.saturating_add(2));
+    let open = token_after(text, at.saturating_add(2));
     let close = closing(text, open)?;
     let condition = between(text, open.saturating_add(1), close).trim_ascii();
-    if !is_comparison(condition) {
+    if !is_comparison(condition) || has_comment(condition) {
         return None;
     }
-    let ahead = word_after(text, close.saturating_add(1));
-    let is_block = byte_at(text, ahead) == b'{';
+    let body = token_after(text, close.saturating_add(1));
+    let is_block = byte_at(text, body) == b'{';
     let first = if is_block {
-        word_after(text, ahead.saturating_add(1))
+        token_after(text, body.saturating_add(1))
     } else {
-        ahead
+        body
     };
     let end = place_of(text, first, b";")?;
-    let mut behind = word_after(text, end.saturating_add(1));
+    let mut next = token_after(text, end.saturating_add(1));
     if is_block {
-        if byte_at(text, behind) != b'}' {
+        if byte_at(text, next) != b'}' {
             return None;
         }
-        behind = word_after(text, behind.saturating_add(1));
+        next = token_after(text, next.saturating_add(1));
     }
-    if word_at(text, behind) == b"else".as_slice() {
+    if word_at(text, next) == b"else".as_slice() {
         return None;
     }
     let statement = between(text, first, end);
     let (target, change) = change_of(statement)?;
-    if guards(condition, statement) {
+    if has_named_index(statement) {
         return None;
     }
     Some(Branch {
@@ -65,27 +65,52 @@ pub fn branch_at(text: &[u8], at: usize) -> Option<Branch<'_>> {
     })
 }
 
-// Whether a condition compares a name that an index of the statement has.
-fn guards(condition: &[u8], statement: &[u8]) -> bool {
-    let mut depth: usize = 0;
-    for place in 0..statement.len() {
-        depth = depth_after(depth, statement[place]);
-        if depth > 0
-            && begins_name(statement, place)
-            && compares(condition, word_at(statement, place))
-        {
+// Where the first word from a byte on begins that isn't in a comment, or the end of the text.
+fn token_after(text: &[u8], at: usize) -> usize {
+    let mut place = word_after(text, at);
+    for _comment in 0..text.len() {
+        match comment_at(text, place) {
+            Some(end) => place = word_after(text, end),
+            None => break,
+        }
+    }
+    place
+}
+
+// Where the comment ends that begins at a byte, if one does.
+fn comment_at(text: &[u8], at: usize) -> Option<usize> {
+    let after = at.saturating_add(2);
+    let mark = between(text, at, after);
+    if mark == b"//".as_slice() {
+        return Some(place_of(text, after, b"\n").unwrap_or(text.len()));
+    }
+    if mark != b"/*".as_slice() {
+        return None;
+    }
+    for place in after..text.len() {
+        if between(text, place, place + 2) == b"*/".as_slice() {
+            return Some(place + 2);
+        }
+    }
+    Some(text.len())
+}
+
+// Whether a comment begins in a text.
+fn has_comment(text: &[u8]) -> bool {
+    for place in 0..text.len() {
+        if comment_at(text, place).is_some() {
             return true;
         }
     }
     false
 }
 
-// Whether a condition has a name outside of its indices.
-fn compares(condition: &[u8], name: &[u8]) -> bool {
+// Whether a statement has an index with a name in it.
+fn has_named_index(statement: &[u8]) -> bool {
     let mut depth: usize = 0;
-    for place in 0..condition.len() {
-        depth = depth_after(depth, condition[place]);
-        if depth == 0 && begins_name(condition, place) && word_at(condition, place) == name {
+    for place in 0..statement.len() {
+        depth = depth_after(depth, statement[place]);
+        if depth > 0 && begins_name(statement, place) {
             return true;
         }
     }
@@ -196,21 +221,31 @@ fn is_target(text: &[u8]) -> bool {
     }
 }
 
-/// Returns whether the branch keeps the greater or the smaller of two values: its condition compares
-/// what it assigns with the target.
-pub fn keeps_one(branch: &Branch<'_>) -> bool {
+/// Returns the kind of reducer that keeps what the branch keeps, if that is the greater or the smaller of
+/// two values: its condition compares what it assigns with the target.
+pub fn kept_by(branch: &Branch<'_>) -> Option<&'static str> {
     let Change::Becomes(value) = branch.change else {
-        return false;
+        return None;
     };
-    let Some(mark) = place_of(branch.condition, 0, b"<>") else {
-        return false;
-    };
+    let mark = place_of(branch.condition, 0, b"<>")?;
     let left = between(branch.condition, 0, mark).trim_ascii();
-    let behind = if byte_at(branch.condition, mark.saturating_add(1)) == b'=' {
-        mark.saturating_add(2)
+    let after = mark.saturating_add(1);
+    let right = if byte_at(branch.condition, after) == b'=' {
+        between(
+            branch.condition,
+            after.saturating_add(1),
+            branch.condition.len(),
+        )
+        .trim_ascii()
     } else {
-        mark.saturating_add(1)
+        between(branch.condition, after, branch.condition.len()).trim_ascii()
     };
-    let right = between(branch.condition, behind, branch.condition.len()).trim_ascii();
-    (left == value && right == branch.target) || (left == branch.target && right == value)
+    let is_greater = byte_at(branch.condition, mark) == b'>';
+    if left == value && right == branch.target {
+        Some(if is_greater { "max" } else { "min" })
+    } else if left == branch.target && right == value {
+        Some(if is_greater { "min" } else { "max" })
+    } else {
+        None
+    }
 }

@@ -20,6 +20,9 @@ pub enum What {
     Lost,
 }
 
+// How many kinds of what a number decides there are.
+const KINDS: usize = 6;
+
 /// A place of the text at which numbers decide: its byte, that of its statement, what they decide there, the
 /// position of the first of them, and how many decide there and at no earlier place.
 #[derive(Clone, Copy)]
@@ -46,18 +49,33 @@ pub struct Graph {
     is_done: Vec<bool>,
     // For each position, whether it decides or was fixed.
     decides: Vec<bool>,
+    // How many positions neither decide nor were fixed.
+    open: usize,
     places: Vec<Place>,
+    // For each byte of the text, the place that was noted last there, and for each place the one noted
+    // before it at its byte, both from 1; 0 for none.
+    latest: Vec<usize>,
+    earlier: Vec<usize>,
     waiting: Vec<Node>,
 }
 
 impl Graph {
     /// Begins with the positions that are fixed. They count as none.
     pub fn new(alloc: Global, fixed: &[bool]) -> Result<Graph, AllocError> {
+        let mut open: usize = 0;
+        for is_fixed in fixed {
+            if !*is_fixed {
+                open = open.saturating_add(1);
+            }
+        }
         Ok(Graph {
             unions: Vec::new(alloc),
             is_done: Vec::new(alloc),
             decides: fixed.to_vec(alloc)?,
+            open,
             places: Vec::new(alloc),
+            latest: Vec::new(alloc),
+            earlier: Vec::new(alloc),
             waiting: Vec::new(alloc),
         })
     }
@@ -68,19 +86,27 @@ impl Graph {
             unions: _unions,
             is_done: _is_done,
             decides,
+            open: _,
             places,
+            latest: _latest,
+            earlier: _earlier,
             waiting: _waiting,
         } = self;
         (decides, places)
     }
 
+    /// Returns whether each position decides or was fixed.
+    pub fn all_decide(&self) -> bool {
+        self.open == 0
+    }
+
     /// Returns the set of one position, or the empty set if it decides.
     pub fn of_position(&self, position: usize) -> Node {
-        self.open(numbered(position.saturating_add(1)))
+        self.undecided(numbered(position.saturating_add(1)))
     }
 
     // The set, or the empty one if all its positions decide.
-    fn open(&self, node: Node) -> Node {
+    fn undecided(&self, node: Node) -> Node {
         if node == 0 {
             return 0;
         }
@@ -97,8 +123,8 @@ impl Graph {
 
     /// Returns the union of two sets, for a word made at this spot.
     pub fn union(&mut self, one: Node, other: Node, spot: Spot) -> Result<Node, AllocError> {
-        let one = self.open(one);
-        let other = self.open(other);
+        let one = self.undecided(one);
+        let other = self.undecided(other);
         if one == 0 || one == other {
             return Ok(other);
         }
@@ -126,12 +152,13 @@ impl Graph {
             let Some(node) = self.waiting.pop() else {
                 break;
             };
-            if self.open(node) == 0 {
+            if self.undecided(node) == 0 {
                 continue;
             }
             let place = node.saturating_sub(1) as usize;
             if let Some(decides) = self.decides.get_mut(place) {
                 *decides = true;
+                self.open = self.open.saturating_sub(1);
                 self.note(place, spot, what)?;
                 continue;
             }
@@ -149,15 +176,11 @@ impl Graph {
 
     // Notes that a position decides at a place.
     fn note(&mut self, position: usize, spot: Spot, what: What) -> Result<(), AllocError> {
-        for number in 0..self.places.len() {
-            let Some(place) = self.places.get_mut(number) else {
-                break;
-            };
-            if place.at == spot.at && place.what == what {
-                place.first = place.first.min(position);
-                place.count = place.count.saturating_add(1);
-                return Ok(());
-            }
+        let latest = self.latest.get(spot.at).copied().unwrap_or(0);
+        if let Some(place) = self.place_of(latest, what) {
+            place.first = place.first.min(position);
+            place.count = place.count.saturating_add(1);
+            return Ok(());
         }
         self.places.push(Place {
             at: spot.at,
@@ -166,7 +189,27 @@ impl Graph {
             first: position,
             count: 1,
         })?;
+        self.earlier.push(latest)?;
+        if spot.at >= self.latest.len() {
+            self.latest.resize(spot.at.saturating_add(1), 0)?;
+        }
+        if let Some(kept) = self.latest.get_mut(spot.at) {
+            *kept = self.places.len();
+        }
         Ok(())
+    }
+
+    // The place where this is decided, among one and those noted before it at its byte.
+    fn place_of(&mut self, latest: usize, what: What) -> Option<&mut Place> {
+        let mut number = latest;
+        for _kind in 0..KINDS {
+            let place = number.checked_sub(1)?;
+            if self.places.get(place)?.what == what {
+                return self.places.get_mut(place);
+            }
+            number = *self.earlier.get(place)?;
+        }
+        None
     }
 }
 

@@ -15,7 +15,7 @@
 //! | [`told::push_places`] | these places in words, with hints |
 //!
 //! ```text
-//! let found = search(alloc, &program, &input, &fixed)?;
+//! let found = search(alloc, &program, &input, run, &fixed)?;
 //! found.decides              // for each number of the input, whether it decides or was fixed
 //! found.places               // by places of the text: the first number that decides there
 //! ```

@@ -1,6 +1,6 @@
 //! The places where numbers decide, in words.
 
-use crate::free::{Branch, Change, branch_at, keeps_one};
+use crate::free::{Branch, Change, branch_at, kept_by};
 use crate::graph::{Place, What};
 use cilk_messages::excerpt::push_excerpt;
 use cilk_messages::place::locate;
@@ -38,10 +38,20 @@ fn push_place(
     place: Place,
     count: usize,
 ) -> Result<(), AllocError> {
-    let told = say("input {} ({} of {} number{}) decides at {}: {}\n")
-        .count(place.first)
-        .count(place.count)
-        .counted(count)
+    let deciders = if place.what == What::Lost {
+        say("input {} and {} more of {} numbers may decide at {}: {}\n")
+            .count(place.first)
+            .count(place.count.saturating_sub(1))
+            .count(count)
+    } else if place.count > 1 {
+        say("input {} and {} more of {} numbers decide at {}: {}\n")
+            .count(place.first)
+            .count(place.count.saturating_sub(1))
+            .count(count)
+    } else {
+        say("input {} decides at {}: {}\n").count(place.first)
+    };
+    let told = deciders
         .with(Part::Place(file, locate(text, place.at)))
         .text(named(place.what));
     told.push(alloc, report)?;
@@ -59,7 +69,7 @@ fn named(what: What) -> &'static str {
         What::Divisor => "the divisor",
         What::Input => "which number is read",
         What::Bound => "the bound of the loop",
-        What::Lost => "so many numbers meet here that it isn't known which matter",
+        What::Lost => "so many numbers meet here that it isn't known which do",
     }
 }
 
@@ -75,18 +85,42 @@ fn push_hint(alloc: Global, report: &mut String, branch: &Branch<'_>) -> Result<
             .word(condition)
             .word(value)
             .word(target)
-            .text(if keeps_one(branch) { REDUCER } else { "" }),
-        Change::Grows(value) => say("no number decides here if the line is `{} += ({}) * ({});`")
+            .word(target),
+        Change::Grows(value) => say(GROWS)
             .word(target)
             .word(condition)
-            .word(value),
-        Change::Counts => say("no number decides here if the line is `{} += ({});`")
-            .word(target)
-            .word(condition),
+            .word(value)
+            .word(target),
+        Change::Counts => say(COUNTS).word(target).word(condition).word(target),
     };
-    push_line(alloc, report, "hint", &hint)
+    push_line(alloc, report, "hint", &hint)?;
+    match (change, kept_by(branch)) {
+        (Change::Becomes(value), Some(kind)) if is_variable(target) => {
+            let kept = say(KEEPS).word(target).text(kind).word(target);
+            let kept = kept.word(value).word(target);
+            push_line(alloc, report, "hint", &kept)
+        }
+        _ => Ok(()),
+    }
 }
 
-const BECOMES: &str = "no number decides here if the line is `{} += ({}) * ({} - {});`{}";
+// Whether a target isn't an element.
+fn is_variable(target: &[u8]) -> bool {
+    !target.contains(&b'[')
+}
 
-const REDUCER: &str = ", or if a reducer keeps it, as by `update(top, x);`";
+const BECOMES: &str =
+    "the condition no longer decides if this statement is `{} += ({}) * ({} - {});`, which always writes `{}`, and \
+     so may race in a parallel loop";
+
+const GROWS: &str =
+    "the condition no longer decides if this statement is `{} += ({}) * ({});`, which always writes `{}`, and so may \
+     race in a parallel loop";
+
+const COUNTS: &str =
+    "the condition no longer decides if this statement is `{} += ({});`, which always writes `{}`, and so may race in \
+     a parallel loop";
+
+const KEEPS: &str =
+    "or make `{}` a `{}` reducer, with `update({}, {});` in place of the statement; if what it begins with counts, \
+     that is an `update` of its own, and `value({})` reads it";

@@ -122,6 +122,10 @@ impl<P, T> Row<P, T> {
         ensures ok { OnOk result (self.new ≡ awaiting self.old key goes_on) }
         ensures err { OnErr result (self.new ≡ self.old) }
     {
+        // Most rows have one key at a time, and a list that grows takes room for four.
+        if self.awaited.is_empty() {
+            self.awaited.reserve_exact(1)?;
+        }
         self.awaited.push(Wait {
             key,
             goes_on,

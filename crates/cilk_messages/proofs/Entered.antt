@@ -1,5 +1,5 @@
 -- From clap's matches to orders.
-use Rattle.std.proofs.Common.{◌≡◌, ℕ, List, [], ◌∷◌, Option, Some, None, option_map, option_and_then, refl, sym, ap, ap₂, ◌∙◌, subst, codes, true, false, length, inl, inr, arith, rules}
+use Rattle.std.proofs.Common.{◌≡◌, ℕ, Bool, List, [], ◌∷◌, Option, Some, None, option_map, option_and_then, refl, sym, ap, ap₂, ◌∙◌, subst, codes, true, false, length, inl, inr, arith, rules}
 use Rattle.std.specs.Prelude.{if◌then◌else◌, ◌||◌, Result, Ok, Err, IfOk}
 use Rattle.std.specs.Borrow.{Bor}
 use Rattle.clap.specs.Words.{AddsSubcommand, App, HasMatchesOf, Row, Text, app_of, fault_of, first_of, first_value, is_simple, is_simple_and_free, kind_of, rows_of, subcommand_of, subcommand_rows_of, with_subcommand}
@@ -12,8 +12,9 @@ use Rattle.clap.specs.declared.parser.matches.ArgMatches.{ArgMatches}
 use Rattle.clap.specs.declared.parser.matches.Found.{Found}
 use Rattle.clap.proofs.OnLiterals.{clap_on_literals}
 use Rattle.clap.proofs.WalkLemmas.{first_value-rows}
+use Rattle.cilk_messages.specs.declared.words.Manner.{Manner}
 use Rattle.cilk_messages.specs.declared.words.Order.{Order}
-use Rattle.cilk_messages.specs.Words.{order_view, Requested, HasShape, Check, IsRefusal, IsWordsFault, Judge, Play, Run, Standard, check_with, cilk_app, judge_with, order_by, order_in, paths_in, paths_view, play_with, script_with, texts, workers_in}
+use Rattle.cilk_messages.specs.Words.{order_view, Requested, HasShape, Check, IsRefusal, IsWordsFault, Judge, Play, Run, Standard, check_with, cilk_app, is_set, judge_with, manner_in, order_by, order_in, paths_in, paths_view, play_with, script_with, texts, workers_in}
 use Rattle.cilk_messages.specs.declared.words.WordsFault.{WordsFault}
 use Rattle.cilk_messages.specs.declared.words.WordsFault.TheVariants.{Usage, Memory}
 
@@ -90,24 +91,32 @@ pub some_script : (f : Found) (o : Option (Bor Text)) (s : Bor Text) → option_
 some_script f o s h e =
     ap (option_and_then (script_with (rows_of f))) (sym (first_value-rows f (codes "script")) ∙ sym h ∙ ap (option_map (λ (s : Bor Text). s.now)) e)
 
--- the order with a script, these paths and this many workers
-abbrev pub played_by : Text → Option ℕ → Text × Option Text → Option Requested
-played_by script workers paths = option_map (λ count. Play paths.0 script count paths.1) workers
+-- the order with a script, these paths and this manner
+abbrev pub played_by : Text → Option Manner → Text × Option Text → Option Requested
+played_by script manner paths = option_map (λ m. Play paths.0 script m paths.1) manner
 
 -- a script without a program
 pub no_script_paths : (rows : List Row) (script : Text) (o : Option (Bor Text × Option (Bor Text))) → option_map paths_view o ≡ paths_in rows → o ≡ None
     → script_with rows script ≡ None
-no_script_paths rows script o h e =
-    ap (option_and_then (played_by script (workers_in (first_of (codes "workers") rows)))) (sym h ∙ ap (option_map paths_view) e)
+no_script_paths rows script o h e = ap (option_and_then (played_by script (manner_in rows))) (sym h ∙ ap (option_map paths_view) e)
 
--- a script with a program and a number of workers
-pub some_script_paths : (f : Found) (script : Text) (o : Option (Bor Text × Option (Bor Text))) (p : Bor Text × Option (Bor Text)) (word : Option (Bor Text))
-    (workers workers' : Option ℕ) → option_map paths_view o ≡ paths_in (rows_of f) → o ≡ Some p
-    → option_map (λ s. s.now) word ≡ first_value f (codes "workers") → workers ≡ workers_in (option_map (λ s. s.now) word) → workers ≡ workers'
-    → script_with (rows_of f) script ≡ played_by script workers' (paths_view p)
-some_script_paths f script o p word workers workers' h e k l d =
-    ap (option_and_then (played_by script (workers_in (first_of (codes "workers") (rows_of f))))) (sym h ∙ ap (option_map paths_view) e)
-    ∙ ap (λ (n : Option ℕ). played_by script n (paths_view p)) (ap workers_in (sym (first_value-rows f (codes "workers")) ∙ sym k) ∙ sym l ∙ d)
+-- a script with a program and a manner
+pub some_script_paths : (rows : List Row) (script : Text) (o : Option (Bor Text × Option (Bor Text))) (p : Bor Text × Option (Bor Text))
+    (manner manner' : Option Manner) → option_map paths_view o ≡ paths_in rows → o ≡ Some p → manner ≡ manner_in rows → manner ≡ manner'
+    → script_with rows script ≡ played_by script manner' (paths_view p)
+some_script_paths rows script o p manner manner' h e k d =
+    ap (option_and_then (played_by script (manner_in rows))) (sym h ∙ ap (option_map paths_view) e)
+    ∙ ap (λ (m : Option Manner). played_by script m (paths_view p)) (sym k ∙ d)
+
+-- the manner that two words say, if the number of workers is one
+pub manner_of : (f : Found) (flag word : Option (Bor Text)) (strict : Bool) (workers workers' : Option ℕ) → option_map (λ s. s.now) flag ≡ first_value f (codes "strict")
+    → strict ≡ is_set (option_map (λ s. s.now) flag) → option_map (λ s. s.now) word ≡ first_value f (codes "workers")
+    → workers ≡ workers_in (option_map (λ s. s.now) word) → workers ≡ workers'
+    → manner_in (rows_of f) ≡ option_map (λ n. record { workers = n; is_strict = strict }) workers'
+manner_of f flag word strict workers workers' h k e l d =
+    ap₂ (λ (n : Option ℕ) (b : Bool). option_map (λ n. record { workers = n; is_strict = b }) n)
+    (ap workers_in (sym (first_value-rows f (codes "workers")) ∙ sym e) ∙ sym l ∙ d)
+    (ap is_set (sym (first_value-rows f (codes "strict")) ∙ sym h) ∙ sym k)
 
 -- a program of commands with one more
 pub with_one : (c s r : Command) (a b : App) → HasShape c a → HasShape s b → AddsSubcommand c s r

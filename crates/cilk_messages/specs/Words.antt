@@ -1,11 +1,11 @@
 -- The orders that command lines give, by clap's own model of how a simple command matches words.
-use Rattle.std.specs.Prelude.{◌≡◌, ◌≢◌, ◌∷◌, [], ℕ, nat_le, ◌&&◌, List, Option, Some, None, map, codes, true, false, if◌then◌else◌, option_map, option_and_then}
+use Rattle.std.specs.Prelude.{◌≡◌, ◌≢◌, ◌∷◌, [], ℕ, nat_le, Bool, ◌&&◌, List, Option, Some, None, map, codes, true, false, if◌then◌else◌, option_map, option_and_then}
 use Rattle.std.specs.Str.{bytes_eq}
 use Rattle.std.specs.Borrow.{Bor}
 use Rattle.clap.specs.Words.{App, Row, Rule, Text, app_of, fault_of, first_of, new_app, new_rule, subcommand_of, with_rule, with_subcommand}
 use Rattle.clap.specs.Simple.{on_top}
 use Rattle.clap.specs.Walk.{is_empty}
-use Rattle.clap.specs.declared.builder.action.ArgAction.TheVariants.{Set}
+use Rattle.clap.specs.declared.builder.action.ArgAction.TheVariants.{Set, SetTrue}
 use Rattle.clap.specs.declared.builder.command.Command.{Command}
 use Rattle.clap.specs.declared.builder.command.Command.TheViews.{out-Command}
 use Rattle.clap.specs.declared.error.kind.ErrorKind.{ErrorKind}
@@ -13,6 +13,7 @@ use Rattle.clap.specs.declared.error.kind.ErrorKind.TheVariants.{OutOfMemory}
 use Rattle.cilk_syntax.specs.Lexing.{all_digits, value_of}
 use Rattle.cilk_messages.specs.declared.words.TheConstants.{WORKERS}
 use Rattle.cilk_types.specs.declared.limits.TheConstants.{MAX_WORKERS}
+use Rattle.cilk_messages.specs.declared.words.Manner.{Manner}
 use Rattle.cilk_messages.specs.declared.words.Order.{Order}
 use Rattle.cilk_messages.specs.declared.words.Order.TheVariants as orders
 use Rattle.cilk_messages.specs.declared.words.Origin.TheVariants as origins
@@ -34,8 +35,7 @@ pub data Requested : Type 0 where
   Run : (program : Origin) (input : Option Text) → Requested
   Certify : (program : Text) (input : Option Text) → Requested
   Check : (program certificate : Text) (input : Option Text) → Requested
-  -- with this many workers
-  Play : (program script : Text) (workers : ℕ) (input : Option Text) → Requested
+  Play : (program script : Text) (manner : Manner) (input : Option Text) → Requested
   Settle : (program : Text) (input : Option Text) → Requested
   -- a trace, and a table of its sites for an explanation
   Judge : (trace : Text) (sites : Option Text) → Requested
@@ -49,17 +49,20 @@ order_view (orders.Run program input) = Run (origin_view program) (option_map (�
 order_view (orders.Certify program input) = Certify program.now (option_map (λ path. path.now) input)
 order_view (orders.Check program certificate input) =
     Check program.now certificate.now (option_map (λ path. path.now) input)
-order_view (orders.Play program script workers input) =
-    Play program.now script.now workers (option_map (λ path. path.now) input)
+order_view (orders.Play program script manner input) =
+    Play program.now script.now manner (option_map (λ path. path.now) input)
 order_view (orders.Settle program input) = Settle program.now (option_map (λ path. path.now) input)
 order_view (orders.Judge trace sites) = Judge trace.now (option_map (λ path. path.now) sites)
 
--- an argument that has to be given, and an option `--NAME VALUE`
+-- an argument that has to be given, an option `--NAME VALUE`, and a flag `--NAME`
 abbrev pub needed : Text → Rule
 needed name = record (new_rule name) { required = true }
 
 abbrev pub taken : Text → Rule
 taken name = record (new_rule name) { long = Some name; action = Some Set }
+
+abbrev pub flagged : Text → Rule
+flagged name = record (new_rule name) { long = Some name; action = Some SetTrue }
 
 abbrev pub program_rule : Rule
 program_rule = record (new_rule (codes "program")) { required = true }
@@ -75,6 +78,9 @@ workers_rule = record (new_rule (codes "workers")) { long = Some (codes "workers
 
 abbrev pub input_rule : Rule
 input_rule = record (new_rule (codes "input")) { long = Some (codes "input"); action = Some Set }
+
+abbrev pub strict_rule : Rule
+strict_rule = record (new_rule (codes "strict")) { long = Some (codes "strict"); action = Some SetTrue }
 
 abbrev pub trace_rule : Rule
 trace_rule = record (new_rule (codes "trace")) { required = true }
@@ -94,9 +100,9 @@ check_app = with_rule (with_rule (with_rule (new_app (codes "check")) program_ru
 abbrev pub script_app : App
 script_app = with_rule (with_rule (new_app (codes "play")) program_rule) script_rule
 
--- the same with `[--workers N] [--input FILE]`
+-- the same with `[--workers N] [--input FILE] [--strict]`
 abbrev pub play_app : App
-play_app = with_rule (with_rule script_app workers_rule) input_rule
+play_app = with_rule (with_rule (with_rule script_app workers_rule) input_rule) strict_rule
 
 -- `judge TRACE [--sites FILE]`
 abbrev pub judge_app : App
@@ -148,11 +154,21 @@ abbrev pub workers_in : Option Text → Option ℕ
 workers_in None = Some WORKERS
 workers_in (Some digits) = worker_count digits
 
+-- clap gives a flag the value `true` or `false`
+abbrev pub is_set : Option Text → Bool
+is_set None = false
+is_set (Some value) = bytes_eq value (codes "true")
+
+-- how a script is played, in these matches
+abbrev pub manner_in : List Row → Option Manner
+manner_in rows =
+    option_map (λ workers. record { workers = workers; is_strict = is_set (first_of (codes "strict") rows) })
+    (workers_in (first_of (codes "workers") rows))
+
 -- the order of `play` with this script and these matches
 abbrev pub script_with : List Row → Text → Option Requested
 script_with rows script =
-    option_and_then (λ paths. option_map (λ workers. Play paths.0 script workers paths.1) (workers_in (first_of (codes "workers") rows)))
-    (paths_in rows)
+    option_and_then (λ paths. option_map (λ manner. Play paths.0 script manner paths.1) (manner_in rows)) (paths_in rows)
 
 -- the order of `play` with these matches
 abbrev pub play_with : List Row → Option Requested

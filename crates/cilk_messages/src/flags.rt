@@ -15,14 +15,19 @@ use std::alloc::{AllocError, Global};
 pub struct Extras {
     pub explains: bool,
     pub traces: bool,
+    /// How many choices of a script are skipped.
+    pub counts: bool,
     pub why: Option<usize>,
 }
 
 /// Returns the texts that a command line requests.
 pub fn extras_of(words: &[&str]) -> Extras {
+    let explains = asks(words, "--explain");
+    let traces = asks(words, "--trace");
     Extras {
-        explains: asks(words, "--explain"),
-        traces: asks(words, "--trace"),
+        explains,
+        traces,
+        counts: first_word(words) == "play" && (explains || traces),
         why: line_in(words),
     }
 }

@@ -76,6 +76,7 @@ Option of check:
 
 Options of play and threads:
   --workers N     the number of workers, 1 to 64; 2 without this option
+  --strict        of play: stop at the first choice that can't be made, with status 3; without it such choices are skipped
   --trace         of play: say on standard error what each worker does: its strands, steals, waits and ends
   --stats         of threads: say on standard error how many strands each worker began, and how many by a steal
   --on FILE       of threads: run with the numbers of FILE in place of those of --input; the answer is `refused 502`
@@ -83,7 +84,8 @@ Options of play and threads:
 
 Status:
   0 done    2 wrong words, file, program, input, script or trace; or a failed write; or this help
-  3 a fault of the run    4 a race, or a refused certificate, or refused numbers of --on    5 out of memory
+  3 a fault of the run, or a choice of a script that `--strict` stops at
+  4 a race, or a refused certificate, or refused numbers of --on    5 out of memory
 
 Limits of a run:
   1,000,000 events, 16,000,000 ticks of work, 65,536 frames, 1,048,576 variables and elements
@@ -128,7 +130,7 @@ INPUT
   --why LINE      for one program: after `settled`, say on standard error what orders the accesses of this line with
                   those of other strands
   --explain       with `--short`, explanations on standard error too; the other forms have them in any case
-  --every         speak of all inputs: `settled on every input of N numbers with these: P is V, ..` means that each
+  --every         speak of other inputs too: `settled on every input of N numbers with these: P is V, ..` means that each
                   input of N numbers with these at these positions, from 0, is settled as well (what it leaves is its
                   own); a race or a fault is said to be on every such input. Standard error says which numbers decide
                   and where: these are fixed
@@ -193,7 +195,7 @@ HELP
 == play
 Run a program in parallel, step by step, by the orders of a script to its workers
 
-Usage: cilk play PROGRAM SCRIPT [--workers N] [--input FILE] [--trace] [--explain]
+Usage: cilk play PROGRAM SCRIPT [--workers N] [--input FILE] [--strict] [--trace] [--explain]
 
 Arguments:
 PROGRAM
@@ -202,6 +204,9 @@ PROGRAM
 Options:
 INPUT
   --workers N     the number of workers, 1 to 64; 2 without this option
+  --strict        stop at the first choice that can't be made: `choice at 17: run 2, but worker 2 has no frame` on
+                  standard error means line 17 of the script, and the status is 3. Without this option such choices are
+                  skipped; `--explain` and `--trace` say how many were, and which was the first
   --trace         say on standard error what each worker does, in up to 200 lines: its strands, with their lines and the
                   events of the serial run, its steals, waits and ends
 EXPLAIN

@@ -5,7 +5,7 @@
 
 ghost use Rattle.std.specs.Prelude.{◌≡◌, ℕ, option_map, IfOk, IfErr, Some};
 ghost use Rattle.clap.specs.Words.{App, found_of, kind_of, new_app, rows_of, subcommand_rows_of, with_rule, with_subcommand};
-ghost use Rattle.cilk_messages.specs.Words.{HasShape, program_app, check_app, cilk_app, empty_app, judge_app, judge_with, order_in, order_by, paths_in, paths_view, play_app, play_with, needed, run_with, certify_with, check_with, settle_with, IsWordsFault, order_view, IsRefusal, taken, texts, worker_count, workers_in};
+ghost use Rattle.cilk_messages.specs.Words.{HasShape, is_set, program_app, check_app, cilk_app, empty_app, judge_app, flagged, judge_with, manner_in, order_in, order_by, paths_in, paths_view, play_app, play_with, needed, run_with, certify_with, check_with, settle_with, IsWordsFault, order_view, IsRefusal, taken, texts, worker_count, workers_in};
 
 use cilk_syntax::lexer::{all_digits, value_of};
 use cilk_types::limits::MAX_WORKERS;
@@ -41,6 +41,15 @@ pub enum Origin<'a> {
     File(&'a str),
 }
 
+/// How a script is played.
+#[derive(Clone, Copy)]
+pub struct Manner {
+    /// The number of workers.
+    pub workers: u32,
+    /// Whether the first choice that can't be made ends the script. Else such choices are skipped.
+    pub is_strict: bool,
+}
+
 /// The order that the words give.
 #[derive(Clone, Copy)]
 pub enum Order<'a> {
@@ -60,11 +69,11 @@ pub enum Order<'a> {
         certificate: &'a str,
         input: Option<&'a str>,
     },
-    /// Play a script with this many workers, on the input of a file or on the empty input.
+    /// Play a script in this manner, on the input of a file or on the empty input.
     Play {
         program: &'a str,
         script: &'a str,
-        workers: u32,
+        manner: Manner,
         input: Option<&'a str>,
     },
     /// Tell whether a program's run has a race, on the input of a file or on the empty input.
@@ -133,6 +142,20 @@ pub(crate) fn taking<'a>(
     }
 }
 
+// Adds a flag `--NAME`.
+fn flagging<'a>(
+    alloc: Global,
+    command: Result<Command<'a>, AllocError>,
+    name: &'a str,
+) -> Result<Command<'a>, AllocError>
+    ensures { (a : App) → IfOk command.entry (λ c. HasShape c a) → IfOk result (λ c. HasShape c (with_rule a (flagged name.entry.now))) }
+{
+    match command {
+        Ok(command) => command.arg(Arg::new(alloc, name).long(name).action(ArgAction::SetTrue)),
+        Err(error) => Err(error),
+    }
+}
+
 // `NAME PROGRAM [--input FILE]`
 fn program_command<'a>(alloc: Global, name: &'a str) -> Result<Command<'a>, AllocError>
     ensures { IfOk result (λ c. HasShape c (program_app name.entry.now)) }
@@ -149,13 +172,13 @@ pub(crate) fn check_command<'a>(alloc: Global) -> Result<Command<'a>, AllocError
     taking(alloc, needing(alloc, program, "certificate"), "input")
 }
 
-// `play PROGRAM SCRIPT [--workers N] [--input FILE]`
+// `play PROGRAM SCRIPT [--workers N] [--input FILE] [--strict]`
 fn play_command<'a>(alloc: Global) -> Result<Command<'a>, AllocError>
     ensures { IfOk result (λ c. HasShape c play_app) }
 {
     let program = needing(alloc, Ok(named(alloc, "play")), "program");
     let workers = taking(alloc, needing(alloc, program, "script"), "workers");
-    taking(alloc, workers, "input")
+    flagging(alloc, taking(alloc, workers, "input"), "strict")
 }
 
 // `judge TRACE [--sites FILE]`
@@ -276,18 +299,40 @@ pub fn workers_in(word: Option<&str>) -> Option<u32>
     }
 }
 
+// Whether a flag is set: clap gives it the value `true` or `false`.
+fn is_set(value: Option<&str>) -> bool
+    ensures { result ≡ is_set (option_map (λ v. v.now) value.entry) }
+{
+    match value {
+        Some(value) => value == "true",
+        None => false,
+    }
+}
+
+// How these matches of `play` say that the script is played.
+fn manner_in(play: &ArgMatches<'_>) -> Option<Manner>
+    ensures { result ≡ manner_in (rows_of (found_of play.now)) }
+{
+    let flag = play.get_str("strict");
+    let is_strict = is_set(flag);
+    let word = play.get_str("workers");
+    match workers_in(word) {
+        Some(workers) => Some(Manner { workers, is_strict }),
+        None => None,
+    }
+}
+
 // The order of `play` with these matches.
 fn play_order<'a>(play: &ArgMatches<'a>) -> Option<Order<'a>>
     ensures { option_map order_view result ≡ play_with (rows_of (found_of play.now)) }
 {
     let script = play.get_str("script")?;
     let (program, input) = paths(play)?;
-    let word = play.get_str("workers");
-    match workers_in(word) {
-        Some(workers) => Some(Order::Play {
+    match manner_in(play) {
+        Some(manner) => Some(Order::Play {
             program,
             script,
-            workers,
+            manner,
             input,
         }),
         None => None,

@@ -36,13 +36,14 @@ struct Offer {
     at: Option<usize>,
 }
 
-/// What a worker is at: its frame, its last deed, and the strand of its last event, if that deed has
-/// it.
+/// What a worker is at: its frame, its last deed and that one's number, and the strand of its last
+/// event, if that deed has it.
 #[derive(Clone, Copy)]
 struct Hand {
     frame: usize,
     strand: Option<u32>,
     deed: usize,
+    last: Option<Deed>,
 }
 
 // A worker that has done nothing.
@@ -50,6 +51,7 @@ const IDLE: Hand = Hand {
     frame: 0,
     strand: None,
     deed: NOWHERE,
+    last: None,
 };
 
 /// Events that a worker makes one after the other, without a counterpart in the serial run where
@@ -222,17 +224,19 @@ impl<'a> Deeds<'a> {
                 upto: at,
             };
             self.add(worker, Deed::Makes(stretch))?;
-        } else if let Some((_, deed)) = self.deeds.get_mut(hand.deed)
-            && let Deed::Makes(stretch) = *deed
-        {
-            *deed = Deed::Makes(Stretch {
-                strand: stretch.strand,
-                count: stretch.count.saturating_add(1),
-                first: stretch.first,
-                last: made,
-                from: stretch.from.min(at),
-                upto: stretch.upto.max(at),
-            });
+        } else if let Some(Deed::Makes(stretch)) = hand.last {
+            self.renew(
+                worker,
+                hand.deed,
+                Deed::Makes(Stretch {
+                    strand: stretch.strand,
+                    count: stretch.count.saturating_add(1),
+                    first: stretch.first,
+                    last: made,
+                    from: stretch.from.min(at),
+                    upto: stretch.upto.max(at),
+                }),
+            );
         }
         if let Some(hand) = self.hands.get_mut(worker) {
             hand.frame = frame;
@@ -322,12 +326,23 @@ impl<'a> Deeds<'a> {
         if let Some(hand) = self.hands.get_mut(worker) {
             hand.strand = None;
             hand.deed = self.count;
+            hand.last = Some(deed);
         }
         if self.deeds.len() < SHOWN {
             self.deeds.push((worker, deed))?;
         }
         self.count = self.count.saturating_add(1);
         Ok(())
+    }
+
+    // Puts another deed in place of the worker's last one.
+    fn renew(&mut self, worker: usize, place: usize, deed: Deed) {
+        if let Some(hand) = self.hands.get_mut(worker) {
+            hand.last = Some(deed);
+        }
+        if let Some(shown) = self.deeds.get_mut(place) {
+            *shown = (worker, deed);
+        }
     }
 
     fn hold(&mut self, worker: usize, frame: usize) {
@@ -355,19 +370,7 @@ impl<'a> Deeds<'a> {
     /// Adds a line for each deed.
     pub fn push(&self, report: &mut String) -> Result<(), AllocError> {
         for (worker, deed) in &self.deeds {
-            let worker = worker.saturating_add(1);
-            match *deed {
-                Deed::Makes(stretch) => self.push_stretch(report, worker, &stretch)?,
-                Deed::Tells(words, at, number) => {
-                    let words = match at {
-                        Some(at) => say(words.0).count(worker).count(self.scene.line(at)),
-                        None => say(words.1).count(worker),
-                    };
-                    self.scene.push(report, &words.count(number))?;
-                }
-                Deed::Ends(twin) => self.push_end(report, worker, twin)?,
-            }
-            report.push('\n')?;
+            self.push_deed(report, worker.saturating_add(1), *deed)?;
         }
         let more = self.count.saturating_sub(self.deeds.len());
         if more > 0 {
@@ -375,6 +378,39 @@ impl<'a> Deeds<'a> {
             self.scene.push(report, &more)?;
         }
         Ok(())
+    }
+
+    /// Adds a line for the last deed of a worker, counted from 1, or nothing if there is no such worker.
+    pub fn push_last(&self, report: &mut String, worker: u32) -> Result<(), AllocError> {
+        let worker = worker as usize;
+        match self.hands.get(worker.saturating_sub(1)) {
+            Some(
+                Hand {
+                    last: Some(deed),
+                    ..
+                },
+            ) => self.push_deed(report, worker, *deed),
+            Some(_) => self
+                .scene
+                .push(report, &say("worker {} has done nothing\n").count(worker)),
+            None => Ok(()),
+        }
+    }
+
+    // A line for a deed.
+    fn push_deed(&self, report: &mut String, worker: usize, deed: Deed) -> Result<(), AllocError> {
+        match deed {
+            Deed::Makes(stretch) => self.push_stretch(report, worker, &stretch)?,
+            Deed::Tells(words, at, number) => {
+                let words = match at {
+                    Some(at) => say(words.0).count(worker).count(self.scene.line(at)),
+                    None => say(words.1).count(worker),
+                };
+                self.scene.push(report, &words.count(number))?;
+            }
+            Deed::Ends(twin) => self.push_end(report, worker, twin)?,
+        }
+        report.push('\n')
     }
 
     // The strands, their lines and events, and the frames of the first and the last.

@@ -19,7 +19,7 @@
 //! |---|---|
 //! | [`measure`], [`totals_of`] | work, span, burdened span, frames and strands of the serial run |
 //! | [`text_of`] | the table or picture of `measure`, or why there is [`NoText`] |
-//! | [`push_trace`] | what each worker does by a script |
+//! | [`push_trace`] | what each worker does by a script, or one of them last |
 //! | [`push_cells`] | a line of a table |
 //! | [`asks`] | whether a word is on a command line |
 //! | [`Kept`], [`CaseTexts`] | copies of what was read, and a program and its input among them |
@@ -52,4 +52,4 @@ pub use cilk_messages::asked::asks;
 pub use rows::push_cells;
 pub use text::{NoText, text_of};
 pub use totals::{Totals, measure, totals_of};
-pub use tracing::push_trace;
+pub use tracing::{Play, Telling, push_trace};

@@ -9,20 +9,39 @@ use cilk_findings::fault::CaseFault;
 use cilk_findings::kept::{CaseTexts, Kept};
 use cilk_findings::runs::Run;
 use cilk_findings::scene::Scene;
-use cilk_messages::words::Origin;
+use cilk_messages::words::{Manner, Origin};
 use cilk_parser::script::{ScriptFault, Step, read};
 use cilk_parser::script_choices::{Choices, Next};
-use cilk_schedule::{Choice, Machine, Stop};
+use cilk_schedule::{Choice, Machine, Stop, Told};
 use std::alloc::{AllocError, Global};
 
 /// The most rounds of one `all`.
 const ROUNDS: u32 = 4_000_000;
+
+/// A script that is played: the files of its program and input, and how.
+#[derive(Clone, Copy)]
+pub struct Play<'a> {
+    pub program: &'a str,
+    pub input: Option<&'a str>,
+    pub manner: Manner,
+}
+
+/// The text about it.
+#[derive(Clone, Copy)]
+pub enum Telling {
+    /// All that each worker does.
+    All,
+    /// The last that a worker does, counted from 1.
+    LastOf(u32),
+}
 
 /// The choices that are left: those of the script, and those of an `all` that is under way.
 #[derive(Drop)]
 struct Left<'a> {
     choices: Choices<'a>,
     workers: u32,
+    // Whether the first choice of the script that can't be made ends it.
+    is_strict: bool,
     // The turns and rounds that are left of an `all`, and the worker whose turn is the next.
     rounds: u32,
     worker: u32,
@@ -59,39 +78,50 @@ impl Left<'_> {
             Some(Choice::Steal(self.worker, 0))
         }
     }
+
+    // Whether what came of the latest choice ends the script. A turn in a round may be skipped.
+    fn ends_by(&self, told: &Told) -> bool {
+        self.is_strict && self.rounds == 0 && matches!(told, Told::Skipped)
+    }
 }
 
-/// Adds what each of `workers` workers, at least 1, does by a script. `kept` has the program, its input
-/// and the script.
+/// Adds what each worker does by a script, or what one of them does last, in a manner with at least 1
+/// worker. `kept` has the program, its input and the script.
 pub fn push_trace(
     alloc: Global,
     report: &mut String,
-    program: &str,
-    input: Option<&str>,
-    workers: u32,
+    play: Play<'_>,
+    telling: Telling,
     kept: &Kept,
 ) -> Result<(), CaseFault>
-    requires { 0 < workers }
+    requires { 0 < play.manner.workers }
 {
-    let Some(texts) = CaseTexts::of(Origin::File(program), input, kept)? else {
+    let Some(texts) = CaseTexts::of(Origin::File(play.program), play.input, kept)? else {
         return Err(CaseFault::Unfit);
     };
     let script = kept.last()?;
     let case = texts.case(alloc)?;
-    push_script(report, &case, workers, script)
+    push_script(report, &case, play.manner, telling, script)
 }
 
 fn push_script(
     report: &mut String,
     case: &Case<'_>,
-    workers: u32,
+    manner: Manner,
+    telling: Telling,
     script: &[u8],
 ) -> Result<(), CaseFault>
-    requires { 0 < workers }
+    requires { 0 < manner.workers }
 {
     let run = Run::of(case)?;
     match read(case.alloc, script) {
-        Ok(steps) => push_run(report, Scene { case, run: &run }, workers, steps.as_slice()),
+        Ok(steps) => push_run(
+            report,
+            Scene { case, run: &run },
+            manner,
+            telling,
+            steps.as_slice(),
+        ),
         Err(ScriptFault::Line(_)) => Err(CaseFault::Unfit),
         Err(ScriptFault::Memory) => Err(CaseFault::Memory),
     }
@@ -101,28 +131,31 @@ fn push_script(
 fn push_run(
     report: &mut String,
     scene: Scene<'_>,
-    workers: u32,
+    manner: Manner,
+    telling: Telling,
     steps: &[Step],
 ) -> Result<(), CaseFault>
-    requires { 0 < workers }
+    requires { 0 < manner.workers }
 {
     let Scene { case, run } = scene;
-    let mut machine = Machine::new(case.alloc, &run.code, &case.input, workers)?;
+    let mut machine = Machine::new(case.alloc, &run.code, &case.input, manner.workers)?;
     let mut deeds = Deeds::new(case.alloc, scene);
     let mut left = Left {
         choices: Choices::new(steps),
-        workers,
+        workers: manner.workers,
+        is_strict: manner.is_strict,
         rounds: 0,
         worker: 0,
     };
-    match follow_on(report, case.alloc, &mut machine, &mut left, &mut deeds) {
-        Ok(()) => Ok(()),
-        Err(_memory) => Err(CaseFault::Memory),
+    follow_on(case.alloc, &mut machine, &mut left, &mut deeds)?;
+    match telling {
+        Telling::All => deeds.push(report)?,
+        Telling::LastOf(worker) => deeds.push_last(report, worker)?,
     }
+    Ok(())
 }
 
 fn follow_on(
-    report: &mut String,
     alloc: Global,
     machine: &mut Machine<'_>,
     left: &mut Left<'_>,
@@ -136,13 +169,13 @@ fn follow_on(
             break;
         };
         match machine.choose(alloc, choice) {
+            Ok(told) if left.ends_by(&told) => break,
             Ok(told) => deeds.note(choice, Ok(told))?,
             Err(Stop::At { fault, strand: _ }) => {
-                deeds.note(choice, Err(fault.number()))?;
-                return deeds.push(report);
+                return deeds.note(choice, Err(fault.number()));
             }
             Err(Stop::Memory) => return Err(AllocError),
         }
     }
-    deeds.push(report)
+    Ok(())
 }

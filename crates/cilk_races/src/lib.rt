@@ -15,8 +15,8 @@
 //! The schedule is searched for: one worker runs up to the spawn or into the child, a second worker
 //! steals the continuation and makes the later access, then the first worker runs the child. Where
 //! a run is short, neighbours of that schedule are played until one shows another outcome than the
-//! serial run. The report says how the outcome differs and how many were tried, and has the script
-//! for `play`.
+//! serial run, and then some by chance, of up to 16 workers. The report says how the outcome differs
+//! and how many were tried, and has the script for `play`.
 //!
 //! Last come the further races, a line for each two places of the text, by the same labels of strands
 //! as the checker's.
@@ -38,8 +38,10 @@
 #![tactic(auto)]
 
 mod beside;
+mod chance;
 mod cures;
 mod orders;
+mod outcomes;
 mod pair;
 pub mod races;
 mod schedules;

@@ -1,14 +1,15 @@
 //! A search for a schedule that shows a race.
 
+use crate::chance::{Drawn, draw};
+use crate::outcomes::{MOST, NONE, SAME, TWO, played};
 use crate::pair::Pair;
 use cilk_findings::case::Case;
 use cilk_findings::scene::Scene;
-use cilk_messages::sentence::{Part, Sentence, push_line, say};
+use cilk_messages::sentence::{Sentence, push_line, say};
 use cilk_parser::script::{LineOrder, Step};
-use cilk_schedule::{PlayFault, play_steps_on};
 use cilk_types::event::Event;
 use cilk_types::invocation::Invocation;
-use cilk_types::outcome::{Final, Outcome};
+use cilk_types::outcome::Outcome;
 use std::alloc::AllocError;
 
 // Schedules are played until they have made about this many events, but at least one is: a play costs
@@ -39,32 +40,58 @@ pub struct Found {
     place: usize,
     behind: usize,
     child: usize,
-    // How much the outcome tells a reader, in words, and how many schedules were played.
+    // How much the outcome tells a reader, and in words.
     told: u8,
     words: Sentence<'static>,
-    played: usize,
 }
 
-// `play` doesn't take the schedule, or its outcome is the serial run's, has other globals, or another
-// result or output.
-const NONE: u8 = 0;
+/// A schedule that shows a race, one near its events or one drawn by chance, and how many were tried.
+#[derive(Drop)]
+pub enum Schedule {
+    Near(Found, usize),
+    Drawn(Drawn, usize),
+}
 
-const SAME: u8 = 1;
+impl Schedule {
+    /// Returns the script of the schedule.
+    pub fn script(&self, case: &Case<'_>) -> Result<String, AllocError> {
+        match self {
+            Schedule::Near(found, _) => found.script(case),
+            Schedule::Drawn(drawn, _) => drawn.script(case),
+        }
+    }
 
-const OTHER: u8 = 2;
-
-const MOST: u8 = 3;
-
-/// Plays schedules near a race, until one shows something else than the serial run. Returns the one
-/// whose outcome differs most, if `play` takes any. The first makes the later event first.
-pub fn search(scene: &Scene<'_>, pair: &Pair) -> Result<Option<Found>, AllocError> {
-    match &scene.run.outcome {
-        Some(serial) => best_of(scene, pair, serial),
-        None => Ok(None),
+    /// Adds the outcome in words, and the script.
+    pub fn push(&self, case: &Case<'_>, report: &mut String) -> Result<(), AllocError> {
+        match self {
+            Schedule::Near(found, tried) => found.push(case, *tried, report),
+            Schedule::Drawn(drawn, tried) => drawn.push(case, *tried, report),
+        }
     }
 }
 
-fn best_of(scene: &Scene<'_>, pair: &Pair, serial: &Outcome) -> Result<Option<Found>, AllocError> {
+/// Plays schedules near a race, and then some by chance, until one shows another result, output or
+/// reducer than the serial run. Returns the one whose outcome differs most, if `play` takes any. The
+/// first makes the later event first.
+pub fn search(scene: &Scene<'_>, pair: &Pair) -> Result<Option<Schedule>, AllocError> {
+    let Some(serial) = &scene.run.outcome else {
+        return Ok(None);
+    };
+    let (near, played) = best_of(scene, pair, serial)?;
+    if near.told == MOST {
+        return Ok(Some(Schedule::Near(near, played)));
+    }
+    let (drawn, tried) = draw(scene, serial, near.told)?;
+    let tried = played.saturating_add(tried);
+    Ok(match drawn {
+        Some(drawn) => Some(Schedule::Drawn(drawn, tried)),
+        None if near.told == NONE => None,
+        None => Some(Schedule::Near(near, tried)),
+    })
+}
+
+// The schedule near the race that tells most, and how many were played.
+fn best_of(scene: &Scene<'_>, pair: &Pair, serial: &Outcome) -> Result<(Found, usize), AllocError> {
     let mut best = schedule_of(scene, pair, 0, 0);
     let most = MADE / scene.run.trace.len().max(1);
     let mut played: usize = 0;
@@ -88,32 +115,12 @@ fn best_of(scene: &Scene<'_>, pair: &Pair, serial: &Outcome) -> Result<Option<Fo
             break;
         }
     }
-    Ok(if best.told == NONE {
-        None
-    } else {
-        Some(Found { played, ..best })
-    })
+    Ok((best, played))
 }
-
-const GLOBALS: &str =
-    "this script for `play` leaves other values in global variables than `run`; of {} scripts near it, none shows \
-     more";
-
-const NOTHING: &str =
-    "this script for `play` makes the later access first; {} scripts near it were tried, and all leave what `run` \
-     leaves";
 
 const ONE: &str =
     "this script for `play` makes the later access first, and leaves what `run` leaves; no other was tried, as the \
      run is long";
-
-const STOPS: &str = "by this script for `play` the run stops by fault {}";
-
-const RESULT: &str = "this script for `play` leaves the result {}, where `run` shows {}";
-
-const OUTPUT: &str = "this script for `play` prints other numbers than `run`";
-
-const REDUCER: &str = "this script for `play` leaves another value in a reducer than `run`";
 
 const SCRIPT: &str = "run 1 {}\nsteal 2 {}\nrun 2 {}\nrun 1 {}\nall\n";
 
@@ -127,13 +134,17 @@ impl Found {
         Ok(script)
     }
 
-    /// Adds the outcome in words, and the script.
-    pub fn push(&self, case: &Case<'_>, report: &mut String) -> Result<(), AllocError> {
-        let is_one = self.told == SAME && self.played == 1;
-        let words = if is_one {
+    /// Adds the outcome in words, given how many schedules were tried, and the script.
+    pub fn push(
+        &self,
+        case: &Case<'_>,
+        tried: usize,
+        report: &mut String,
+    ) -> Result<(), AllocError> {
+        let words = if self.told == SAME && tried == 1 {
             say(ONE)
         } else {
-            self.words.count(self.played)
+            self.words.count(tried)
         };
         push_line(case.alloc, report, "schedule", &words)?;
         self.say(SHOWN).push(case.alloc, report)
@@ -164,15 +175,7 @@ impl Found {
                 order: LineOrder::All,
             },
         ];
-        let Scene { case, run } = scene;
-        match play_steps_on(case.alloc, &run.code, &case.input, 2, &steps) {
-            Ok(Some(outcome)) => Ok(differing(&outcome, serial)),
-            Ok(None) | Err(PlayFault::Line(_)) => Ok((NONE, say(""))),
-            Err(PlayFault::Stop { fault, .. }) => {
-                Ok((MOST, say(STOPS).count(fault.number() as usize)))
-            }
-            Err(PlayFault::Memory) => Err(AllocError),
-        }
+        played(scene, serial, TWO, &steps)
     }
 }
 
@@ -270,39 +273,5 @@ fn schedule_of(scene: &Scene<'_>, pair: &Pair, near: usize, beyond: usize) -> Fo
         child: ended.saturating_add(1).saturating_sub(ahead),
         told: NONE,
         words: say(""),
-        played: 0,
     }
-}
-
-// The difference between an outcome and the serial run's.
-fn differing(outcome: &Outcome, serial: &Outcome) -> (u8, Sentence<'static>) {
-    if outcome.result != serial.result {
-        let left = say(RESULT).with(Part::Number(outcome.result));
-        (MOST, left.with(Part::Number(serial.result)))
-    } else if outcome.output.as_slice() != serial.output.as_slice() {
-        (MOST, say(OUTPUT))
-    } else if !are_same(outcome.reducers.as_slice(), serial.reducers.as_slice()) {
-        (MOST, say(REDUCER))
-    } else if outcome.globals.as_slice() != serial.globals.as_slice() {
-        (OTHER, say(GLOBALS))
-    } else {
-        (SAME, say(NOTHING))
-    }
-}
-
-fn are_same(one: &[Final], other: &[Final]) -> bool {
-    if one.len() != other.len() {
-        return false;
-    }
-    for (left, right) in one.iter().zip(other.iter()) {
-        let same = match (left, right) {
-            (Final::Number(left), Final::Number(right)) => left == right,
-            (Final::List(left), Final::List(right)) => left.as_slice() == right.as_slice(),
-            _ => false,
-        };
-        if !same {
-            return false;
-        }
-    }
-    true
 }

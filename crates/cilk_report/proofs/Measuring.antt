@@ -35,6 +35,7 @@ no_outcome (failures.Program number place) = tt
 no_outcome (failures.Input number place) = tt
 no_outcome (failures.Run number at) = tt
 no_outcome (failures.Strand number name) = tt
+no_outcome (failures.Unmade skip) = tt
 no_outcome (failures.Script at) = tt
 no_outcome (failures.Trace number at) = tt
 no_outcome (failures.Changed name) = tt

@@ -66,6 +66,7 @@ unfailed (failures.Program number place) t = t
 unfailed (failures.Input number place) t = t
 unfailed (failures.Run number at) t = t
 unfailed (failures.Strand number name) t = t
+unfailed (failures.Unmade skip) t = t
 unfailed (failures.Script at) t = t
 unfailed (failures.Trace number at) t = t
 unfailed (failures.Changed name) t = t

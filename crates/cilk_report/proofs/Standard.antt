@@ -4,7 +4,7 @@
 -- - `some_words`: words that aren't empty have no order that reads standard input;
 -- - `some_left`: where a word is left without those that add a text, there was one;
 -- - `measured_file`: the program of a run to measure is a file; `some_check`: the words of a check aren't empty.
-use Rattle.std.proofs.Common.{◌≡◌, ℕ, Bool, true, false, List, [], ◌∷◌, Option, Some, None, refl, ap, subst}
+use Rattle.std.proofs.Common.{◌≡◌, Bool, true, false, List, [], ◌∷◌, Option, Some, None, refl, ap, subst}
 use Rattle.std.specs.Prelude.{◌≢◌, if◌then◌else◌, codes, option_map, option_and_then}
 use Rattle.std.specs.Str.{bytes_eq}
 use Rattle.clap.specs.Words.{Row, fault_of, first_of, subcommand_of}
@@ -12,7 +12,8 @@ use Rattle.clap.specs.Walk.{is_empty}
 use Rattle.cilk_commands.specs.Replies.{Text}
 use Rattle.cilk_commands.specs.Serving.{IsStandard, ReadsStandard}
 use Rattle.cilk_messages.specs.Asked.{measured_run, run_of, unflagged, words_of_check, words_of_run}
-use Rattle.cilk_messages.specs.Words.{Certify, Check, File, Judge, Origin, Play, Requested, Run, Settle, certify_with, check_with, cilk_app, judge_with, named, order_by, order_in, paths_in, play_with, run_with, script_with, settle_with, workers_in}
+use Rattle.cilk_messages.specs.declared.words.Manner.{Manner}
+use Rattle.cilk_messages.specs.Words.{Certify, Check, File, Judge, Origin, Play, Requested, Run, Settle, certify_with, check_with, cilk_app, judge_with, manner_in, named, order_by, order_in, paths_in, play_with, run_with, script_with, settle_with}
 
 mapped : (A : Type 0) (f : A → Requested) → ((a : A) → ReadsStandard (Some (f a)) → ⊥) → (o : Option A) → ReadsStandard (option_map f o) → ⊥
 mapped A f never None h = h
@@ -28,12 +29,11 @@ chosen false x y left right h = right h
 
 named_file : (p : Text × List Row) → ReadsStandard (named p) → ⊥
 named_file p =
-    let counted = workers_in (first_of (codes "workers") p.1) in
     let judged = mapped Text (λ trace. Judge trace (first_of (codes "sites") p.1)) (λ a h. h) (first_of (codes "trace") p.1) in
     let settled = mapped (Text × Option Text) (λ paths. Settle paths.0 paths.1) (λ a h. h) (paths_in p.1) in
     let played =
-    chained Text (script_with p.1) (λ script. chained (Text × Option Text) (λ paths. option_map (λ workers. Play paths.0 script workers paths.1) counted)
-    (λ paths. mapped ℕ (λ workers. Play paths.0 script workers paths.1) (λ a h. h) counted) (paths_in p.1)) (first_of (codes "script") p.1) in
+    chained Text (script_with p.1) (λ script. chained (Text × Option Text) (λ paths. option_map (λ manner. Play paths.0 script manner paths.1) (manner_in p.1))
+    (λ paths. mapped Manner (λ manner. Play paths.0 script manner paths.1) (λ a h. h) (manner_in p.1)) (paths_in p.1)) (first_of (codes "script") p.1) in
     let checked =
     chained Text (λ certificate. option_map (λ paths. Check paths.0 certificate paths.1) (paths_in p.1))
     (λ certificate. mapped (Text × Option Text) (λ paths. Check paths.0 certificate paths.1) (λ a h. h) (paths_in p.1)) (first_of (codes "certificate") p.1) in
@@ -60,7 +60,7 @@ file_run : (o : Option Requested) (run : Origin × Option Text) → (ReadsStanda
 file_run (Some (Run program input)) run never same h = let q : run.0 ≡ program = cc in never (subst IsStandard q h)
 file_run (Some (Certify program input)) run never same h = let f : ⊥ = cc in f
 file_run (Some (Check program certificate input)) run never same h = let f : ⊥ = cc in f
-file_run (Some (Play program script workers input)) run never same h = let f : ⊥ = cc in f
+file_run (Some (Play program script manner input)) run never same h = let f : ⊥ = cc in f
 file_run (Some (Settle program input)) run never same h = let f : ⊥ = cc in f
 file_run (Some (Judge trace sites)) run never same h = let f : ⊥ = cc in f
 file_run None run never same h = let f : ⊥ = cc in f

@@ -17,6 +17,7 @@ TellsAll _ = ⊥
 abbrev pub Explains : Reply → Text → Type 0
 Explains r explanation = TellsAll r → explanation ≡ []
 
--- the words ask for a text beside an explanation: the trace of a script, or what orders the accesses of a line
+-- the words ask for a text beside an explanation: the trace of a script, how many of its choices are skipped, or what
+-- orders the accesses of a line
 abbrev pub asks_more : Extras → Bool
-asks_more extras = extras.traces || is_some extras.why
+asks_more extras = extras.traces || (extras.counts || is_some extras.why)

@@ -51,8 +51,6 @@ const CUT_OFF: &str =
     "reason: a whole trace ends with the line `end`: the program crashed or was killed, or still runs, or a part of the file is missing\n\
     hint: a trace that is cut off decides nothing: record the run again, to its end\n";
 
-const CHANGED: &str = "hint: a trace is read twice: judge it when nothing writes to it any more\n";
-
 /// The files of an order to judge a trace.
 #[derive(Clone, Copy)]
 pub struct Judged<'a> {
@@ -141,9 +139,8 @@ fn failure_text<F: Keeps>(
             "{trace}:{line}:1: error {number}: the trace is cut off here\n{CUT_OFF}"
         )?),
         Failure::Unreadable(_) => Ok(format!(in alloc;
-            "hint: is `{trace}` a file that can be read, of at most 268,435,456 bytes? It is read twice, so it can't be a pipe\n"
+            "hint: is `{trace}` a file that can be read, of at most 268,435,456 bytes? It is read in parts, so it can't be a pipe\n"
         )?),
-        Failure::Changed(_) => Ok(String::from_str(alloc, CHANGED)?),
         _ => Ok(String::new(alloc)),
     }
 }

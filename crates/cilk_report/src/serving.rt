@@ -83,6 +83,7 @@ pub fn serve_explained<F: Keeps, R: CountedRead, O: Write, E: Write>(
             let extras = Extras {
                 explains: false,
                 traces: false,
+                counts: false,
                 why: None,
             };
             serve_flagged(alloc, words, extras, files, input, out, err)

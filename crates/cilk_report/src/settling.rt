@@ -426,6 +426,9 @@ fn told_on_every(
             reply.numbers,
         )?;
     }
+    if reply.claim.is_none() && reply.numbers > 0 {
+        text.push_str("this holds of this input alone\n")?;
+    }
     if batch.form == Form::Json {
         return Ok(text);
     }

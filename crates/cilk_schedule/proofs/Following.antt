@@ -22,7 +22,7 @@ use Rattle.cilk_schedule.specs.declared.fault.PlayFault.{PlayFault}
 use Rattle.cilk_schedule.specs.declared.fault.PlayFault.TheVariants as faults
 
 -- an error that was passed on
-pub handed : {T : Type 0} (x : Result T PlayFault) (f : PlayFault) (P : PlayFault → Type 0) → IsErrAnd x (λ e. e ≡ f) → P f → IfErr x P
+pub handed : {T F : Type 0} (x : Result T F) (f : F) (P : F → Type 0) → IsErrAnd x (λ e. e ≡ f) → P f → IfErr x P
 handed (Ok v) f P h p = absurd h
 handed (Err e) f P h p = subst P (sym h) p
 

@@ -190,7 +190,7 @@ comes_turn workers tasks worker n k l m f h e lost =
 
 -- ---- rounds
 
-is_over : (code : CodeView) (p : Source) (inputs : List ℤ) (b : Scheduler) (h : HasReached code p inputs b) → is_some b.outcome ≡ true → IsOver h.state
+pub is_over : (code : CodeView) (p : Source) (inputs : List ℤ) (b : Scheduler) (h : HasReached code p inputs b) → is_some b.outcome ≡ true → IsOver h.state
 is_over code p inputs b h e = by b.outcome refl e
   where
     by : (o : Option Outcome) → b.outcome ≡ o → is_some o ≡ true → IsOver h.state

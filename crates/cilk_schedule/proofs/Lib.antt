@@ -3,6 +3,7 @@ pub mod Answering
 pub mod Arriving
 pub mod Begun
 pub mod Coming
+pub mod Counted
 pub mod Deciding
 pub mod DecidingWorkerTables
 pub mod DecidingSteps
@@ -16,6 +17,7 @@ pub mod Leading
 pub mod Linked
 pub mod Links
 pub mod OneEnd
+pub mod OneSkip
 pub mod Onward
 pub mod Opened
 pub mod Owners
@@ -24,6 +26,7 @@ pub mod Paths
 pub mod Played
 pub mod Quieting
 pub mod Reaching
+pub mod Reasons
 pub mod Repeated
 pub mod Rounds
 pub mod Shown
@@ -35,6 +38,7 @@ pub mod Started
 pub mod Stealing
 pub mod Stepping
 pub mod Strands
+pub mod Strictly
 pub mod Syncing
 pub mod Turns
 pub mod Whole

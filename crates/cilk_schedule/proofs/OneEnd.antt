@@ -30,7 +30,7 @@ some_is : {A : Type 0} (x y : A) → Some x ≡ Some y → x ≡ y
 some_is x y e = cc
 
 module _ (p : Source) (inputs : List ℤ) (workers : ℕ) where
-  plays_once : (tasks : List Task) (s t : State FrameEnv View) (d : WorkerTable) (e e' : End) → deciding.IsGoing p inputs s → Agree s t → Plays p inputs workers tasks s d e → Plays p inputs workers tasks t d e' → SameEnd p inputs e e'
+  pub plays_once : (tasks : List Task) (s t : State FrameEnv View) (d : WorkerTable) (e e' : End) → deciding.IsGoing p inputs s → Agree s t → Plays p inputs workers tasks s d e → Plays p inputs workers tasks t d e' → SameEnd p inputs e e'
   plays_once tasks s t d e e' going agree (Finished _ _) (Finished _ _) = (refl, agree)
   plays_once tasks s t d e e' going agree (Chosen choice told rest _ s' _ d' _ h k) (Chosen _ told' _ _ t' _ d'' _ h' k') =
       let law = choices_decide p inputs in

@@ -15,3 +15,4 @@ pub mod Shown
 pub mod Sound
 pub mod Starting
 pub mod Stretches
+pub mod Strict

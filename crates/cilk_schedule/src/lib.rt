@@ -19,6 +19,8 @@
 //! | [`play`] | Makes a list of choices and returns what the run shows. |
 //! | [`play_steps`] | Makes the choices of a script (`cilk_parser`) and returns the outcome. |
 //! | [`play_steps_on`] | The same on code that is there already. |
+//! | [`play_strictly`], [`play_strictly_on`] | The same, up to the first choice that can't be made. |
+//! | [`play_counting`], [`play_counting_on`] | The same, with the number of choices that were skipped. |
 //! | [`machine::Machine::choose`] | Makes one choice. |
 //! | [`machine::Machine::choose_many`] | Makes choices of one worker, one after another. |
 //! | [`showing::Shown`] | The events of each frame, joined children and the outcome, by paths. |
@@ -34,6 +36,7 @@
 #![tactic(auto)]
 
 mod arrivals;
+mod counting;
 mod ending;
 mod events;
 mod fault;
@@ -49,9 +52,14 @@ mod running;
 pub mod showing;
 mod starting;
 mod stretch;
+mod strict;
 mod thieves;
+mod unmade;
 
 pub use cilk_scheduler::choice::{Act, Choice, Stop, Strand, Told};
+pub use counting::{play_counting, play_counting_on};
 pub use fault::PlayFault;
 pub use machine::{Machine, play};
 pub use player::{play as play_steps, play_on as play_steps_on};
+pub use strict::{play_strictly, play_strictly_on};
+pub use unmade::{CountedPlay, Reason, Skip, Skips, StrictFault};

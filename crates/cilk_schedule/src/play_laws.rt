@@ -3,6 +3,7 @@
 
 ghost use Rattle.std.specs.Prelude.{◌≡◌, ℤ, List};
 ghost use Rattle.cilk_schedule.specs.Playing.{OpeningsAreReached, ScriptsHaveOneEnd, SettlesEachState};
+ghost use Rattle.cilk_schedule.specs.Strict.{SkipsAreOne};
 ghost use Rattle.cilk_program.specs.Syntax.{Source};
 ghost use Rattle.cilk_schedule.specs.declared.player.TheConstants.{MAX_ROUNDS};
 
@@ -16,6 +17,12 @@ pub fn limits_are()
 /// views of frames that haven't begun.
 pub fn script_has_one_end()
     ensures { (p : Source) (inputs : List ℤ) → ScriptsHaveOneEnd p inputs }
+{}
+
+/// A script has at most one first choice that can't be made, for one reason; or each of its choices can
+/// be made; never both. So each result of strict playing, but for want of memory, is the only one.
+pub fn skips_are_one()
+    ensures { (p : Source) (inputs : List ℤ) → SkipsAreOne p inputs }
 {}
 
 /// A new machine represents a reachable state of the free machine, after no steps.

@@ -104,8 +104,8 @@ fn make(alloc: Global, machine: &mut Machine<'_>, workers: u32, next: Next) -> R
     }
 }
 
-// Makes rounds of all workers until the run has ended, at most `MAX_ROUNDS`.
-fn rounds(alloc: Global, machine: &mut Machine<'_>, workers: u32) -> Result<(), PlayFault>
+/// Makes rounds of all workers until the run has ended, at most `MAX_ROUNDS`.
+pub fn rounds(alloc: Global, machine: &mut Machine<'_>, workers: u32) -> Result<(), PlayFault>
     requires { IsUnstopped machine.old }
     ensures going { OnOk result (IsUnstopped machine.new) }
     ensures made { OnOk result (Leads workers (Rounds MAX_ROUNDS ∷ []) machine.old [] machine.new) }
@@ -197,9 +197,9 @@ fn choose<const COPY: u8>(
     }
 }
 
-// The error that reports a stop. Apart, so that a choice that doesn't stop is short.
+/// Returns the error that reports a stop. Apart, so that a choice that doesn't stop is short.
 #[inline(never)]
-fn stopped(alloc: Global, machine: &Machine<'_>, stop: Stop) -> PlayFault
+pub fn stopped(alloc: Global, machine: &Machine<'_>, stop: Stop) -> PlayFault
     ensures { IsFaultOf machine.now.scheduler stop result }
 {
     let Stop::At { fault, strand: _ } = stop else {

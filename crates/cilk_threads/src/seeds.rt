@@ -148,7 +148,8 @@ pub fn takes<N: Naming>(
 }
 
 /// The most tasks for which racks have room at first, all together. A deque may round the room of each
-/// up to twice as much.
+/// up to twice as much, and writes each slot as it is made: 28,656 spawns take 2.4 MB a rack, and
+/// without this bound 65,535 spawns by 64 workers would take some 300 MB before the run begins.
 pub const MAX_ROOM: usize = 524_288;
 
 // The room of each of `count` racks: for every spawn of the run, or else its part of the most.

@@ -1,5 +1,5 @@
 -- Lines after others: `get_last`, `get_front` and `each_of` for lists, `alive_front` for reducers, `noted_more` and `refused_more` for
--- the structure; `nests_end` says that a whole trace's structure has ended.
+-- the structure.
 use Rattle.std.proofs.Common.{◌≡◌, ℕ, zero, suc, ◌<◌, ◌≤◌, List, [], ◌∷◌, ◌++◌, length, Bool, true, inl, inr, refl, sym, ◌∙◌, ap, subst, arith, append_assoc, length-append, Option, Some, None, slice_get}
 use Rattle.std.specs.Prelude.{set}
 use Rattle.std.proofs.lemmas.Bool.{cases_lt}
@@ -81,7 +81,3 @@ ends (lines.End ∷ []) [] ms m n h =
     let e : record { marks = ms ++ Sync ∷ End ∷ []; begun = []; ended = true } ≡ m = cc h in sym (ap (λ (x : Noted). x.ended) e)
 ends (lines.End ∷ (l ∷ ls)) [] ms m n h = absurd n
 ends (lines.End ∷ ls) (k ∷ ks) ms m n h = absurd n
-
--- the structure of a whole trace has ended
-pub nests_end : (ls : List Line) (m : Noted) → Nests 0 ls → noted ls opening ≡ Some m → m.ended ≡ true
-nests_end ls m n h = ends ls [] (Begin ∷ []) m n h

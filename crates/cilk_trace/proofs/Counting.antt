@@ -1,6 +1,6 @@
 -- How many marks lines have. `counted`: what is kept of lines has their marks; `limits_front`: the first lines of a trace keep its limits; `limits_next`, `past_limits`: one line
 -- more keeps them, or doesn't.
-use Rattle.std.proofs.Common.{◌≡◌, ℕ, ◌+◌, ◌<◌, ◌≤◌, ◌^◌, List, [], ◌∷◌, ◌++◌, length, Bool, true, false, cond, Option, Some, None, refl, ap, ◌∙◌, arith, length-append}
+use Rattle.std.proofs.Common.{◌≡◌, ℕ, ◌+◌, ◌<◌, ◌≤◌, ◌^◌, List, [], ◌∷◌, ◌++◌, length, Bool, true, false, cond, Option, Some, None, refl, ap, arith, length-append}
 use Rattle.std.specs.Prelude.{set}
 use Rattle.std.proofs.lemmas.List.{length-set}
 use Rattle.cilk_tree.specs.declared.mark.Mark.{Mark}
@@ -35,9 +35,6 @@ both_counted (l ∷ ls) more =
     let a = after_counted l (ls ++ more) in let b = after_counted l ls in let c = both_counted ls more in omega (arith, a, b, c)
 
 -- ---- what is kept
-
-grown : (n m : Noted) (ms : List Mark) → m.marks ≡ n.marks ++ ms → length m.marks ≡ length n.marks + length ms
-grown n m ms e = ap (λ (l : List Mark). length l) e ∙ length-append n.marks ms
 
 closed_grown : (how : Mark) (n m : Noted) (ks : List ℕ) → closed how n ks ≡ Some m → length m.marks ≡ length n.marks + 3
 closed_grown how n m [] h = absurd (cc h)

@@ -1,6 +1,6 @@
 -- Lifetimes of reducers, line by line: `lives_next`, `retirements_next` and `retirements_grow` take one line more; `peers_at` says that
 -- lines of one class have the same peers.
-use Rattle.std.proofs.Common.{◌≡◌, ℕ, zero, suc, ◌+◌, ◌≤◌, List, [], ◌∷◌, length, Bool, refl, ◌∙◌, ap, subst, arith, Some, None, slice_get, ◌↔◌}
+use Rattle.std.proofs.Common.{◌≡◌, ℕ, zero, suc, ◌+◌, ◌≤◌, List, [], ◌∷◌, Bool, refl, ◌∙◌, ap, subst, arith, Some, None, slice_get, ◌↔◌}
 use Rattle.cilk_tree.specs.Shape.{Shape, SpellsMarks}
 use Rattle.cilk_tree.specs.Tree.{tree}
 use Rattle.cilk_peers.specs.Peers.{class_numbers, SamePeers}
@@ -47,13 +47,3 @@ peers_at s ls sp i j =
     let b = strand_held s ls sp j in
     let n = length-class_numbers (tree s) 0 1 in
     one_class s (class_numbers (tree s) 0 1) (strand_of ls i) (strand_of ls j) _ _ refl a.0 (let k = a.1 in omega (arith, k, n)) b.0 (let k = b.1 in omega (arith, k, n)) refl refl
-
--- a line's strand has a class
-pub strand_classed : (s : Shape) (ls : List Line) (i strand : ℕ) (classes : List ℕ) → SpellsMarks s (marks_of ls) → classes ≡ class_numbers (tree s) 0 1 → strand ≡ strand_of ls i
-    → (1 ≤ strand) × (strand ≤ length classes)
-strand_classed s ls i strand classes sp c e =
-    let a = strand_held s ls sp i in
-    let n = length-class_numbers (tree s) 0 1 in
-    let k = ap (λ (x : List ℕ). length x) c in
-    let x = a.0 in let y = a.1 in
-    (omega (arith, x, e), omega (arith, y, e, n, k))

@@ -1,17 +1,17 @@
--- The histories of cells by pages. What is done to a page is done to its cells: `page_met`, `page_best`. A page that is empty, filled up or new at the end changes no history:
--- `page_cleared`, `page_filled`, `page_pushed`.
-use Rattle.std.proofs.Common.{◌≡◌, ◌≢◌, ◌⊎◌, ℕ, zero, suc, ◌+◌, ◌-◌, ◌*◌, ◌/◌, ◌%◌, ◌<◌, ◌≤◌, List, [], ◌∷◌, ◌++◌, length, Option, Some, slice_get, refl, sym, ◌∙◌, ap, subst, arith, inl, inr, Bool, true, false, not, cond, eqb}
+-- What is kept of cells, by pages. What is done in a page is done to its cells, and a race there is one of its cells: `met_in_page`, `race_in_page`. A page
+-- that is filled up, or new at the end, changes nothing that is kept of a cell: `filled`, `page_pushed`.
+use Rattle.std.proofs.Common.{◌≡◌, ◌≢◌, ℕ, zero, suc, ◌+◌, ◌-◌, ◌*◌, ◌/◌, ◌%◌, ◌^◌, ◌<◌, ◌≤◌, List, [], ◌∷◌, ◌++◌, length, Option, Some, slice_get, refl, sym, ◌∙◌, ap, arith, inl, inr, Bool, true, false, not, eqb}
 use Rattle.std.specs.Prelude.{slice_index_or, slice_set, replicate, take}
 use Rattle.std.proofs.lemmas.Option.{slice_get_past, slice_get_read}
-use Rattle.std.proofs.lemmas.Bool.{cases_lt, le-ltb, ne_eqb}
+use Rattle.std.proofs.lemmas.Bool.{cases_lt, ne_eqb}
 use Rattle.std.proofs.lemmas.List.{get_or_append_left, get_or-append_right, get_or-replicate, get_or_past, length-replicate, nil_from_length, take_all}
-use Rattle.cilk_trace.specs.declared.line.Cells.{Cells}
-use Rattle.cilk_trace.specs.declared.histories.Kept.{Kept}
-use Rattle.cilk_trace.specs.declared.histories.History.{History}
 use Rattle.cilk_trace.specs.declared.histories.Page.{Page}
 use Rattle.cilk_trace.specs.declared.histories.Kind.{Kind}
-use Rattle.cilk_trace.specs.declared.histories.Kind.TheVariants.{Clear}
-use Rattle.cilk_trace.specs.Histories.{untouched, nothing, above, racing, after, held_by, history_at, history_of, part, IsMet, IsBest}
+use Rattle.cilk_trace.specs.declared.positions.Positions.{Positions}
+use Rattle.cilk_trace.specs.Accesses.{Covers}
+use Rattle.cilk_trace.specs.IntervalStacks.{IntervalStack}
+use Rattle.cilk_trace.specs.Pages.{none, kept_by, kept_in, positions_at, positions_of, part, AreMet, IsLeastRace}
+use Rattle.cilk_trace.specs.Positions.{after, raced_in}
 
 pub set_here : (pages : List Page) (number : ℕ) (page : Page) → number < length pages → slice_get (slice_set pages number page) number ≡ Some page
 set_here [] number page h = absurd (omega (arith, h))
@@ -25,69 +25,77 @@ set_other (p ∷ ps) zero page (suc o) n = refl
 set_other (p ∷ ps) (suc k) page zero n = refl
 set_other (p ∷ ps) (suc k) page (suc o) n = set_other ps k page o (λ e. n (omega (arith, e)))
 
--- the history of a cell is that at its place of its page
-in_page : (pages : List Page) (number : ℕ) (hs : List History) (c : ℕ) → held_by (slice_get pages number) ≡ hs → c / 4096 ≡ number → history_of pages c ≡ history_at hs (c % 4096)
-in_page pages number hs c e q =
-    ap (λ (n : ℕ). history_at (held_by (slice_get pages n)) (c % 4096)) q ∙ ap (λ (h : List History). history_at h (c % 4096)) e
+-- what a page keeps, by its places
+abbrev Holds : List Page → ℕ → (ℕ → Positions) → Type 0
+Holds pages number f = (p : ℕ) → kept_in (slice_get pages number) p ≡ f p
+
+-- what is kept of a cell is that at its place of its page
+in_page : (pages : List Page) (number : ℕ) (f : ℕ → Positions) (c : ℕ) → Holds pages number f → c / 4096 ≡ number → positions_of pages c ≡ f (c % 4096)
+in_page pages number f c e q = ap (λ (n : ℕ). kept_in (slice_get pages n) (c % 4096)) q ∙ e (c % 4096)
 
 -- two lists of pages that differ in one, and the cells from one on up to another, in that page
-pub record InOne (old new : List Page) (number from to low high : ℕ) (before now : List History) : Type 0 where
-  pub held : held_by (slice_get old number) ≡ before
-  pub holds : held_by (slice_get new number) ≡ now
+pub record InOne (old new : List Page) (number from to low high : ℕ) (before now : ℕ → Positions) : Type 0 where
+  pub held : (p : ℕ) → kept_in (slice_get old number) p ≡ before p
+  pub holds : (p : ℕ) → kept_in (slice_get new number) p ≡ now p
   pub others : (n : ℕ) → n ≢ number → slice_get new n ≡ slice_get old n
   pub begin : from ≡ 4096 * number + low
   pub end : to ≡ 4096 * number + high
   pub within : high ≤ 4096
 
-pub page_met : (kind : Kind) (here : Kept) (old new : List Page) (number from to low high : ℕ) (before now : List History) → InOne old new number from to low high before now
-    → IsMet kind here (part low high) (history_at before) (history_at now) → IsMet kind here (part from to) (history_of old) (history_of new)
-page_met kind here old new number from to low high before now o m =
-    let b = o.begin in let e = o.end in let u = o.within in
+page_race : (o : IntervalStack) (kind : Kind) (old new : List Page) (number from to low high : ℕ) (before now : ℕ → Positions) (raced : ℕ)
+    → InOne old new number from to low high before now
+    → IsLeastRace o kind (part low high) before raced → IsLeastRace o kind (part from to) (positions_of old) raced
+page_race o kind old new number from to low high before now raced w r =
+    let f = w.begin in let e = w.end in let u = w.within in
+    let here : (c : ℕ) → Covers (part from to) c → c / 4096 ≡ number = λ c v. (let x = v.0 in let y = v.1 in omega (arith, x, y, f, e, u)) in
+    let place : (c : ℕ) → Covers (part from to) c → Covers (part low high) (c % 4096) =
+    λ c v. (let x = v.0 in let y = v.1 in (omega (arith, x, y, f, e, u), omega (arith, x, y, f, e, u))) in
     record {
-      covered = λ c w. (let x = w.0 in let y = w.1 in
-          let q : c / 4096 ≡ number = omega (arith, x, y, b, e, u) in
-          in_page new number now c o.holds q
-          ∙ (m.covered (c % 4096) (omega (arith, x, y, b, e, u), omega (arith, x, y, b, e, u)) ∙ ap (after kind here) (sym (in_page old number before c o.held q))));
-      others = λ c w.
-          let apart : c / 4096 ≢ number → history_of new c ≡ history_of old c =
-          λ n. ap (λ (p : Option Page). history_at (held_by p) (c % 4096)) (o.others (c / 4096) n) in
+      clean = λ z c v. ap (raced_in o kind) (in_page old number before c w.held (here c v)) ∙ r.clean z (c % 4096) (place c v);
+      found = λ pos. (let g = r.found pos in let x = g.1.0 in let y = g.1.1 in
+          let c = 4096 * number + g.0 in
+          let q : c / 4096 ≡ number = omega (arith, x, y, u) in
+          let s : c % 4096 ≡ g.0 = omega (arith, x, y, u) in (
+            c,
+            (omega (arith, x, f), omega (arith, x, y, f, e)),
+            ap (raced_in o kind) (in_page old number before c w.held q ∙ ap before s) ∙ g.2,
+            λ d v less. (let p = here d v in
+                ap (raced_in o kind) (in_page old number before d w.held p) ∙ g.3 (d % 4096) (place d v) (omega (arith, less, p))),
+          ));
+    }
+
+page_met : (o : IntervalStack) (kind : Kind) (at : ℕ) (old new : List Page) (number from to low high : ℕ) (before now : ℕ → Positions)
+    → InOne old new number from to low high before now
+    → AreMet o kind at (part low high) before now → AreMet o kind at (part from to) (positions_of old) (positions_of new)
+page_met o kind at old new number from to low high before now w m =
+    let f = w.begin in let e = w.end in let u = w.within in
+    record {
+      covered = λ c v. (let x = v.0 in let y = v.1 in
+          let q : c / 4096 ≡ number = omega (arith, x, y, f, e, u) in
+          let place : Covers (part low high) (c % 4096) = (omega (arith, x, y, f, e, u), omega (arith, x, y, f, e, u)) in
+          in_page new number now c w.holds q ∙ (m.covered (c % 4096) place ∙ ap (after o kind at) (sym (in_page old number before c w.held q))));
+      others = λ c n.
+          (let apart : c / 4096 ≢ number → positions_of new c ≡ positions_of old c = λ d. ap (λ (p : Option Page). kept_in p (c % 4096)) (w.others (c / 4096) d) in
           elim (cases_lt (c / 4096) number) [
             | inl l ↦ apart (λ q. omega (arith, q, l))
             | inr l ↦ elim (cases_lt number (c / 4096)) [
               | inl k ↦ apart (λ q. omega (arith, q, k))
               | inr k ↦ (let q : c / 4096 ≡ number = omega (arith, l, k) in
-                  in_page new number now c o.holds q
-                  ∙ (m.others (c % 4096) (λ v. (let x = v.0 in let y = v.1 in w (omega (arith, x, y, q, b, e, u), omega (arith, x, y, q, b, e, u))))
-                  ∙ sym (in_page old number before c o.held q)))
+                  let out : Covers (part low high) (c % 4096) → ⊥ =
+                  λ v. (let x = v.0 in let y = v.1 in n (omega (arith, x, y, f, e, q), omega (arith, x, y, f, e, q))) in
+                  in_page new number now c w.holds q ∙ (m.others (c % 4096) out ∙ sym (in_page old number before c w.held q)))
             ]
-          ];
+          ]);
     }
 
-pub page_best : (kind : Kind) (n : ℕ) (old new : List Page) (number from to low high : ℕ) (before now : List History) (best : Kept) → InOne old new number from to low high before now
-    → IsBest kind n (part low high) (history_at before) best → IsBest kind n (part from to) (history_of old) best
-page_best kind n old new number from to low high before now best o b =
-    let f = o.begin in let e = o.end in let u = o.within in
-    record {
-      found = λ w. (let g = b.found w in let x = g.1.0 in let y = g.1.1 in
-          let c = 4096 * number + g.0 in
-          let q : c / 4096 ≡ number = omega (arith, x, y, u) in
-          let r : c % 4096 ≡ g.0 = omega (arith, x, y, u) in (
-            c,
-            (omega (arith, x, f), omega (arith, x, y, f, e)),
-            ap (λ (h : History). racing kind h n) (in_page old number before c o.held q ∙ ap (history_at before) r) ∙ g.2,
-          ));
-      greatest = λ c w. (let x = w.0 in let y = w.1 in
-          let q : c / 4096 ≡ number = omega (arith, x, y, f, e, u) in
-          subst (λ (h : History). let r = racing kind h n in (r.hebrew < best.hebrew) ⊎ ((r.hebrew ≡ best.hebrew) × (best.at ≤ r.at))) (sym (in_page old number before c o.held q))
-          (b.greatest (c % 4096) (omega (arith, x, y, f, e, u), omega (arith, x, y, f, e, u))));
-    }
+pub untouched_past : (pages : List Page) (number : ℕ) → length pages ≤ number → (p : ℕ) → kept_in (slice_get pages number) p ≡ none
+untouched_past pages number le p = ap (λ (o : Option Page). kept_in o p) (slice_get_past pages number le)
 
-pub untouched_past : (pages : List Page) (number : ℕ) → length pages ≤ number → held_by (slice_get pages number) ≡ []
-untouched_past pages number le = ap held_by (slice_get_past pages number le)
-
-pub untouched_page : (pages : List Page) (number : ℕ) (page : Page) → number < length pages → page ≡ slice_index_or pages number page → length page.cells.items ≡ 0
-    → held_by (slice_get pages number) ≡ []
-untouched_page pages number page lt read none = ap held_by (slice_get_read pages (length pages) number page refl lt read) ∙ nil_from_length page.cells.items none
+pub untouched_page : (pages : List Page) (number : ℕ) (page : Page) → number < length pages → page ≡ slice_index_or pages number page
+    → length page.grains.items ≡ 0 → (p : ℕ) → kept_in (slice_get pages number) p ≡ none
+untouched_page pages number page lt read empty p =
+    ap (λ (o : Option Page). kept_in o p) (slice_get_read pages (length pages) number page refl lt read)
+    ∙ ap (λ (h : List Positions). positions_at h (p / 2 ^ page.shift)) (nil_from_length page.grains.items empty)
 
 pub none_by : (b : Bool) (n : ℕ) → b ≡ eqb n 0 → not b ≡ false → n ≡ 0
 none_by b n e f = elim (cases_lt 0 n) [
@@ -95,98 +103,66 @@ none_by b n e f = elim (cases_lt 0 n) [
   | inr l ↦ omega (arith, l)
 ]
 
--- the cells of a page without an access have empty histories
-pub untouched_in : (pages : List Page) (number c : ℕ) → held_by (slice_get pages number) ≡ [] → c / 4096 ≡ number → history_of pages c ≡ untouched
-untouched_in pages number c e q = in_page pages number [] c e q
-
-pub page_cleared : (here : Kept) (pages : List Page) (from to : ℕ) → held_by (slice_get pages (from / 4096)) ≡ [] → from < to → to ≤ 4096 * (from / 4096) + 4096
-    → IsMet Clear here (part from to) (history_of pages) (history_of pages)
-page_cleared here pages from to e lt le = record {
-  covered = λ c w. (let x = w.0 in let y = w.1 in untouched_in pages (from / 4096) c e (omega (arith, x, y, lt, le)));
-  others = λ c w. refl;
-}
-
-none_above : (n : ℕ) → above nothing n ≡ nothing
-none_above n = let t = le-ltb n 0 (omega arith) in ap (λ (b : Bool). cond b nothing nothing) t
-
--- nothing races with a clear
-pub none_best : (n : ℕ) (k : Cells) (hs : ℕ → History) → IsBest Clear n k hs nothing
-none_best n k hs = record {
-  found = λ w. absurd (omega (arith, w));
-  greatest = λ c w. inr (ap (λ (x : Kept). x.hebrew) (none_above n), omega arith);
-}
-
--- more empty histories at the end of a page
-more_in : (hs : List History) (k c : ℕ) → history_at (hs ++ replicate k untouched) c ≡ history_at hs c
+-- more cells without an access at the end of a page
+more_in : (hs : List Positions) (k c : ℕ) → positions_at (hs ++ replicate k none) c ≡ positions_at hs c
 more_in hs k c = elim (cases_lt c (length hs)) [
-  | inl l ↦ get_or_append_left hs (replicate k untouched) untouched c l
-  | inr l ↦ (let empty : history_at (replicate k untouched) (c - length hs) ≡ untouched = elim (cases_lt (c - length hs) k) [
-    | inl m ↦ get_or-replicate k (c - length hs) untouched untouched m
-    | inr m ↦ get_or_past (replicate k untouched) (c - length hs) untouched (let n = length-replicate {A = History} k untouched in omega (arith, n, m))
+  | inl l ↦ get_or_append_left hs (replicate k none) none c l
+  | inr l ↦ (let empty : positions_at (replicate k none) (c - length hs) ≡ none = elim (cases_lt (c - length hs) k) [
+    | inl m ↦ get_or-replicate k (c - length hs) none none m
+    | inr m ↦ get_or_past (replicate k none) (c - length hs) none (let n = length-replicate {A = Positions} k none in omega (arith, n, m))
   ] in
-      get_or-append_right hs (replicate k untouched) (length hs) c untouched refl l ∙ (empty ∙ sym (get_or_past hs c untouched l)))
+      get_or-append_right hs (replicate k none) (length hs) c none refl l ∙ (empty ∙ sym (get_or_past hs c none l)))
 ]
 
 -- a new page at the end
-got_pushed : (pages : List Page) (page : Page) (n : ℕ) → page.cells.items ≡ [] → held_by (slice_get (pages ++ page ∷ []) n) ≡ held_by (slice_get pages n)
-got_pushed [] page zero e = e
-got_pushed [] page (suc n) e = refl
-got_pushed (p ∷ ps) page zero e = refl
-got_pushed (p ∷ ps) page (suc n) e = got_pushed ps page n e
+got_pushed : (pages : List Page) (page : Page) (n p : ℕ) → kept_by page p ≡ none → kept_in (slice_get (pages ++ page ∷ []) n) p ≡ kept_in (slice_get pages n) p
+got_pushed [] page zero p e = e
+got_pushed [] page (suc n) p e = refl
+got_pushed (q ∷ qs) page zero p e = refl
+got_pushed (q ∷ qs) page (suc n) p e = got_pushed qs page n p e
 
-pub page_pushed : (old new : List Page) (page : Page) → new ≡ old ++ page ∷ [] → page.cells.items ≡ [] → (c : ℕ) → history_of new c ≡ history_of old c
-page_pushed old new page e f c =
-    ap (λ (ps : List Page). history_of ps c) e ∙ ap (λ (h : List History). history_at h (c % 4096)) (got_pushed old page (c / 4096) f)
+pub page_pushed : (old new : List Page) (page : Page) → new ≡ old ++ page ∷ [] → ((p : ℕ) → kept_by page p ≡ none) → (c : ℕ) → positions_of new c ≡ positions_of old c
+page_pushed old new page e f c = ap (λ (ps : List Page). positions_of ps c) e ∙ got_pushed old page (c / 4096) (c % 4096) (f (c % 4096))
 
--- a page is filled up
-pub page_filled : (old new : List Page) (number : ℕ) (page page' : Page) → slice_get old number ≡ Some page → new ≡ slice_set old number page' → number < length old
-    → ((c : ℕ) → history_at page'.cells.items c ≡ history_at page.cells.items c) → (c : ℕ) → history_of new c ≡ history_of old c
-page_filled old new number page page' at e lt f c =
-    let here : slice_get new number ≡ Some page' = ap (λ (ps : List Page). slice_get ps number) e ∙ set_here old number page' lt in
-    let apart : c / 4096 ≢ number → history_of new c ≡ history_of old c =
-    λ n. ap (λ (p : Option Page). history_at (held_by p) (c % 4096)) (ap (λ (ps : List Page). slice_get ps (c / 4096)) e ∙ set_other old number page' (c / 4096) n) in
-    elim (cases_lt (c / 4096) number) [
-      | inl l ↦ apart (λ q. omega (arith, q, l))
-      | inr l ↦ elim (cases_lt number (c / 4096)) [
-        | inl m ↦ apart (λ q. omega (arith, q, m))
-        | inr m ↦ (let q : c / 4096 ≡ number = omega (arith, l, m) in
-            in_page new number page'.cells.items c (ap held_by here) q ∙ (f (c % 4096) ∙ sym (in_page old number page.cells.items c (ap held_by at) q)))
-      ]
-    ]
-
--- a page's histories, filled up with empty ones
-pub filled : (old new : List History) (n k : ℕ) → length old ≤ n → new ≡ take n old ++ replicate k untouched → (c : ℕ) → history_at new c ≡ history_at old c
+-- grains, filled up with ones without an access
+pub filled : (old new : List Positions) (n k : ℕ) → length old ≤ n → new ≡ take n old ++ replicate k none → (c : ℕ) → positions_at new c ≡ positions_at old c
 filled old new n k le e c =
-    ap (λ (h : List History). history_at h c) (e ∙ ap (λ (h : List History). h ++ replicate k untouched) (take_all n old le)) ∙ more_in old k c
+    ap (λ (h : List Positions). positions_at h c) (e ∙ ap (λ (h : List Positions). h ++ replicate k none) (take_all n old le)) ∙ more_in old k c
 
--- ---- a step in a page that there is room in
+-- ---- a step in a page that is there
 
 in_one : (mid : List Page) (number from to : ℕ) (page page' : Page) → slice_get mid number ≡ Some page → number < length mid → number ≡ from / 4096 → from < to
     → to ≤ 4096 * (from / 4096) + 4096
-    → InOne mid (slice_set mid number page') number from to (from % 4096) (from % 4096 + (to - from)) page.cells.items page'.cells.items
+    → InOne mid (slice_set mid number page') number from to (from % 4096) (from % 4096 + (to - from)) (kept_by page) (kept_by page')
 in_one mid number from to page page' at lt is less le = record {
-  held = ap held_by at;
-  holds = ap held_by (set_here mid number page' lt);
+  held = λ p. ap (λ (o : Option Page). kept_in o p) at;
+  holds = λ p. ap (λ (o : Option Page). kept_in o p) (set_here mid number page' lt);
   others = λ n apart. set_other mid number page' n apart;
   begin = omega (arith, is);
   end = omega (arith, is, less);
   within = omega (arith, less, le);
 }
 
-pub met_in_page : (kind : Kind) (here : Kept) (old mid : List Page) (number from to : ℕ) (page page' : Page) → ((c : ℕ) → history_of mid c ≡ history_of old c)
-    → slice_get mid number ≡ Some page → number < length mid → number ≡ from / 4096 → from < to → to ≤ 4096 * (from / 4096) + 4096
-    → IsMet kind here (part (from % 4096) (from % 4096 + (to - from))) (history_at page.cells.items) (history_at page'.cells.items)
-    → IsMet kind here (part from to) (history_of old) (history_of (slice_set mid number page'))
-met_in_page kind here old mid number from to page page' same at lt is less le m =
-    let p = page_met kind here mid (slice_set mid number page') number from to _ _ _ _ (in_one mid number from to page page' at lt is less le) m in
-    record { covered = λ c w. p.covered c w ∙ ap (after kind here) (same c); others = λ c w. p.others c w ∙ same c }
-
-pub best_in_page : (kind : Kind) (n : ℕ) (old mid : List Page) (number from to : ℕ) (page page' : Page) (best : Kept) → ((c : ℕ) → history_of mid c ≡ history_of old c)
-    → slice_get mid number ≡ Some page → number < length mid → number ≡ from / 4096 → from < to → to ≤ 4096 * (from / 4096) + 4096
-    → IsBest kind n (part (from % 4096) (from % 4096 + (to - from))) (history_at page.cells.items) best → IsBest kind n (part from to) (history_of old) best
-best_in_page kind n old mid number from to page page' best same at lt is less le b =
-    let p = page_best kind n mid (slice_set mid number page') number from to _ _ _ _ best (in_one mid number from to page page' at lt is less le) b in
+pub met_in_page : (o : IntervalStack) (kind : Kind) (here : ℕ) (old mid : List Page) (number from to : ℕ) (page page' : Page)
+    → ((c : ℕ) → positions_of mid c ≡ positions_of old c) → slice_get mid number ≡ Some page → number < length mid → number ≡ from / 4096 → from < to
+    → to ≤ 4096 * (from / 4096) + 4096
+    → AreMet o kind here (part (from % 4096) (from % 4096 + (to - from))) (kept_by page) (kept_by page')
+    → AreMet o kind here (part from to) (positions_of old) (positions_of (slice_set mid number page'))
+met_in_page o kind here old mid number from to page page' same at lt is less le m =
+    let p = page_met o kind here mid (slice_set mid number page') number from to _ _ _ _ (in_one mid number from to page page' at lt is less le) m in
     record {
-      found = λ w. let g = p.found w in (g.0, g.1, ap (λ (h : History). racing kind h n) (sym (same g.0)) ∙ g.2);
-      greatest = λ c w. subst (λ (h : History). let r = racing kind h n in (r.hebrew < best.hebrew) ⊎ ((r.hebrew ≡ best.hebrew) × (best.at ≤ r.at))) (same c) (p.greatest c w);
+      covered = λ c w. p.covered c w ∙ ap (after o kind here) (same c);
+      others = λ c w. p.others c w ∙ same c;
+    }
+
+pub race_in_page : (o : IntervalStack) (kind : Kind) (old mid : List Page) (number from to : ℕ) (page page' : Page) (raced : ℕ)
+    → ((c : ℕ) → positions_of mid c ≡ positions_of old c) → slice_get mid number ≡ Some page → number < length mid → number ≡ from / 4096 → from < to
+    → to ≤ 4096 * (from / 4096) + 4096
+    → IsLeastRace o kind (part (from % 4096) (from % 4096 + (to - from))) (kept_by page) raced → IsLeastRace o kind (part from to) (positions_of old) raced
+race_in_page o kind old mid number from to page page' raced same at lt is less le r =
+    let p = page_race o kind mid (slice_set mid number page') number from to _ _ _ _ raced (in_one mid number from to page page' at lt is less le) r in
+    record {
+      clean = λ z c w. ap (raced_in o kind) (sym (same c)) ∙ p.clean z c w;
+      found = λ pos. (let g = p.found pos in
+          (g.0, g.1, ap (raced_in o kind) (sym (same g.0)) ∙ g.2, λ d w less. ap (raced_in o kind) (sym (same d)) ∙ g.3 d w less));
     }

@@ -5,16 +5,14 @@ use Rattle.cilk_tree.specs.Tree.{Tree}
 use Rattle.cilk_trace.specs.declared.line.Cells.{Cells}
 use Rattle.cilk_trace.specs.declared.line.Line.{Line}
 use Rattle.cilk_trace.specs.declared.line.Line.TheVariants as lines
-use Rattle.cilk_trace.specs.declared.histories.Kept.{Kept}
-use Rattle.cilk_trace.specs.declared.histories.History.{History}
 use Rattle.cilk_trace.specs.declared.histories.Kind.{Kind}
 use Rattle.cilk_trace.specs.declared.histories.Kind.TheVariants as kinds
-use Rattle.cilk_trace.specs.Accesses.{Covers, covers, begun_in, cleared_in, clears, AccessesCell, WritesCell, AccessesAt, WritesAt, IsTraceRace}
-use Rattle.cilk_trace.specs.Histories.{nothing, untouched, better, after, IsMet}
-use Rattle.cilk_trace.specs.Passes.{Does, IsIdle, number, IsGreatest, Standing}
-use Rattle.cilk_trace.proofs.Strands.{clears_next, clears_grow, strand_first, strand_next}
+use Rattle.cilk_trace.specs.Accesses.{Covers, covers, cleared_in, clears, AccessesCell, WritesCell, AccessesAt, WritesAt, IsTraceRace, number}
+use Rattle.cilk_trace.specs.Histories.{Kept, History, nothing, untouched, better, after, IsMet}
+use Rattle.cilk_trace.specs.Passes.{Does, IsIdle, IsGreatest, Standing}
+use Rattle.cilk_trace.proofs.Strands.{clears_next, clears_grow}
 
-covered : (k : Cells) (c : ℕ) → (Covers k c × (covers k c ≡ true)) ⊎ ((Covers k c → ⊥) × (covers k c ≡ false))
+pub covered : (k : Cells) (c : ℕ) → (Covers k c × (covers k c ≡ true)) ⊎ ((Covers k c → ⊥) × (covers k c ≡ false))
 covered k c = elim (cases_lt c k.first) [
   | inl m ↦ inr ((λ w. let x = w.0 in omega (arith, x, m)), (let t = lt-leb k.first c m in rw t refl))
   | inr m ↦ elim (cases_lt c (k.first + k.count)) [
@@ -122,9 +120,9 @@ keeps_other t ls i c (lines.Clear d) kinds.Clear k h at does n g =
     (unmoved WritesCell ls (number t ls) c i (lines.Clear d) h.write at z (λ x. x) g.0, unmoved AccessesCell ls (number t ls) c i (lines.Clear d) h.access at z (λ x. x) g.1)
 keeps_other t ls i c _ _ k h at does n g = absurd does
 
-pub keeps_met : (t : Tree) (ls : List Line) (i strand : ℕ) (hs hs' : ℕ → History) (l : Line) (kind : Kind) (k : Cells) (here : Kept) → slice_get ls i ≡ Some l → Does l kind k
-    → 1 ≤ number t ls i → here.at ≡ i + 1 → here.hebrew ≡ number t ls i → Standing t ls i strand hs → IsMet kind here k hs hs' → (c : ℕ) → Keeps t ls (suc i) c (hs' c)
-keeps_met t ls i strand hs hs' l kind k here at does pos e f s m c = elim (covered k c) [
+pub keeps_met : (t : Tree) (ls : List Line) (i : ℕ) (hs hs' : ℕ → History) (l : Line) (kind : Kind) (k : Cells) (here : Kept) → slice_get ls i ≡ Some l → Does l kind k
+    → 1 ≤ number t ls i → here.at ≡ i + 1 → here.hebrew ≡ number t ls i → Standing t ls i hs → IsMet kind here k hs hs' → (c : ℕ) → Keeps t ls (suc i) c (hs' c)
+keeps_met t ls i hs hs' l kind k here at does pos e f s m c = elim (covered k c) [
   | inl w ↦ subst (Keeps t ls (suc i) c) (sym (m.covered c w.0)) (keeps_covered t ls i c l kind k here (hs c) at does w.0 pos e f (s.writes c, s.accesses c))
   | inr w ↦ subst (Keeps t ls (suc i) c) (sym (m.others c w.0)) (keeps_other t ls i c l kind k (hs c) at does w.0 (s.writes c, s.accesses c))
 ]
@@ -165,9 +163,9 @@ writes_touch (Some (lines.Write k s)) c h = h
 writes_touch _ c h = absurd h
 
 -- no race ends at an idle line
-pub idle_clean : (t : Tree) (ls : List Line) (i strand : ℕ) (hs : ℕ → History) (l : Line) → slice_get ls i ≡ Some l → IsIdle l → Standing t ls i strand hs
+idle_clean : (t : Tree) (ls : List Line) (i : ℕ) (hs : ℕ → History) (l : Line) → slice_get ls i ≡ Some l → IsIdle l → Standing t ls i hs
     → (p q : ℕ) → q ≤ suc i → IsTraceRace t ls p q → ⊥
-idle_clean t ls i strand hs l at idle st p q le r = elim (cases_lt q (suc i)) [
+idle_clean t ls i hs l at idle st p q le r = elim (cases_lt q (suc i)) [
   | inl m ↦ st.clean p q (omega (arith, m)) r
   | inr m ↦ (let e : q - 1 ≡ i = omega (arith, le, m) in
       let o = r.cell in
@@ -175,21 +173,28 @@ idle_clean t ls i strand hs l at idle st p q le r = elim (cases_lt q (suc i)) [
       idle_touches l o.cell idle (subst (λ (x : Option Line). AccessesCell x o.cell) at (subst (λ (n : ℕ). AccessesCell (slice_get ls n) o.cell) e a)))
 ]
 
-pub standing_idle : (t : Tree) (ls : List Line) (i strand strand' : ℕ) (hs : ℕ → History) (l : Line) → slice_get ls i ≡ Some l → IsIdle l → strand' ≡ strand + begun_in l
-    → Standing t ls i strand hs → Standing t ls (suc i) strand' hs
-standing_idle t ls i strand strand' hs l at idle e st = record {
-  here = let x = st.here in let y = strand_next ls i l at in omega (arith, e, x, y);
+pub standing_idle : (t : Tree) (ls : List Line) (i : ℕ) (hs : ℕ → History) (l : Line) → slice_get ls i ≡ Some l → IsIdle l → Standing t ls i hs → Standing t ls (suc i) hs
+standing_idle t ls i hs l at idle st = record {
   writes = λ c. (keeps_idle t ls i c l (hs c) at idle (st.writes c, st.accesses c)).0;
   accesses = λ c. (keeps_idle t ls i c l (hs c) at idle (st.writes c, st.accesses c)).1;
-  clean = idle_clean t ls i strand hs l at idle st;
+  clean = idle_clean t ls i hs l at idle st;
 }
 
-pub standing_first : (t : Tree) (ls : List Line) (strand : ℕ) (hs : ℕ → History) → strand ≡ 1 → ((c : ℕ) → hs c ≡ untouched) → Standing t ls 0 strand hs
-standing_first t ls strand hs e empty = record {
-  here = let z = strand_first ls in omega (arith, e, z);
+pub standing_first : (t : Tree) (ls : List Line) (hs : ℕ → History) → ((c : ℕ) → hs c ≡ untouched) → Standing t ls 0 hs
+standing_first t ls hs empty = record {
   writes = λ c. subst (λ (h : History). IsGreatest (WritesAt ls c (clears ls c 0)) (number t ls) 0 h.write) (sym (empty c))
       (record { held = λ w. absurd (omega (arith, w)); most = λ j m p. absurd (omega (arith, m)) });
   accesses = λ c. subst (λ (h : History). IsGreatest (AccessesAt ls c (clears ls c 0)) (number t ls) 0 h.access) (sym (empty c))
       (record { held = λ w. absurd (omega (arith, w)); most = λ j m p. absurd (omega (arith, m)) });
   clean = λ p q l r. (let x = r.first in let y = r.earlier in omega (arith, l, x, y));
 }
+
+-- of a cell the write has no greater number than the access
+pub write_least : (t : Tree) (ls : List Line) (i : ℕ) (hs : ℕ → History) → Standing t ls i hs → (c : ℕ) → (hs c).write.hebrew ≤ (hs c).access.hebrew
+write_least t ls i hs st c = elim (cases_lt 0 (hs c).write.hebrew) [
+  | inl m ↦ (let h = (st.writes c).held m in
+      let x = h.0 in let y = h.1 in let e = h.3 in
+      let a : AccessesAt ls c (clears ls c i) ((hs c).write.at - 1) = (writes_touch (slice_get ls ((hs c).write.at - 1)) c h.2.0, h.2.1) in
+      elim ((st.accesses c).most ((hs c).write.at - 1) (omega (arith, x, y)) a) [ inl u ↦ omega (arith, u, e) | inr u ↦ (let v = u.0 in omega (arith, v, e)) ])
+  | inr m ↦ omega (arith, m)
+]

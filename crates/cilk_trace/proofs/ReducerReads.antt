@@ -1,5 +1,5 @@
--- The state of the pass that looks for view-read races: `viewing_first` before the first line, `viewing_idle` after a line of no
--- reducer, `viewing_read` after a line of a reducer.
+-- What a survey knows of reducers' views: `viewing_first` before the first line, `viewing_read` after a line; `set_strand`: a view was set by
+-- a strand of the trace.
 use Rattle.std.proofs.Common.{◌≡◌, ◌≢◌, ℕ, suc, ◌+◌, ◌-◌, ◌<◌, ◌≤◌, ◌⊎◌, inl, inr, Bool, true, false, cond, List, [], ◌∷◌, Option, Some, None, unwrap_or, slice_get, refl, sym, ◌∙◌, ap, subst, arith, eqb}
 use Rattle.std.specs.Prelude.{is_some}
 use Rattle.std.proofs.lemmas.Bool.{cases_lt, eqb-true, eqb-false}
@@ -10,40 +10,41 @@ use Rattle.cilk_trace.specs.declared.line.Line.TheVariants as lines
 use Rattle.cilk_trace.specs.declared.births.Birth.{Birth}
 use Rattle.cilk_trace.specs.declared.views.ViewRace.{ViewRace}
 use Rattle.cilk_trace.specs.Marks.{marks_of}
-use Rattle.cilk_trace.specs.Accesses.{begun_in}
+use Rattle.cilk_peers.specs.Peers.{class}
+use Rattle.cilk_trace.specs.Accesses.{begun_in, strand_of}
 use Rattle.cilk_trace.specs.Reducers.{Suits, is_alive, lives, retired_in, retirements, ReadsView, ReadsViewAt, IsTraceViewRace, IsFirstTraceViewRace}
 use Rattle.cilk_trace.specs.Births.{kept_of, set_at}
-use Rattle.cilk_trace.specs.Views.{class_at, AreReads, Viewing, IsOfReducer}
+use Rattle.cilk_trace.specs.Views.{class_at, AreReads, IsBorn, IsStrand, Viewing}
 use Rattle.cilk_trace.proofs.Strands.{strand_first, strand_next}
 use Rattle.cilk_trace.proofs.Lifetimes.{lives_next, retirements_next, retirements_grow, peers_at}
 
--- ---- of indices with a property, the first and its class
+-- ---- of indices with a property, the first and its strand
 
-skipped : (P : ℕ → Type 0) (C : ℕ → ℕ) (i : ℕ) (o : Option Birth) → (P i → ⊥) → AreReads P C i o → AreReads P C (suc i) o
-skipped P C i None n g = λ j l p. elim (cases_lt j i) [ inl m ↦ g j m p | inr m ↦ (let e : j ≡ i = omega (arith, l, m) in n (subst P e p)) ]
-skipped P C i (Some b) n g = record {
+skipped : (P : ℕ → Type 0) (S K : ℕ → ℕ) (i : ℕ) (o : Option Birth) → (P i → ⊥) → AreReads P S K i o → AreReads P S K (suc i) o
+skipped P S K i None n g = λ j l p. elim (cases_lt j i) [ inl m ↦ g j m p | inr m ↦ (let e : j ≡ i = omega (arith, l, m) in n (subst P e p)) ]
+skipped P S K i (Some b) n g = record {
   held = (let h = g.held in let x = h.1 in (h.0, omega (arith, x), h.2));
-  class = g.class;
+  strand = g.strand;
   first = λ j l p. elim (cases_lt j i) [ inl m ↦ g.first j m p | inr m ↦ (let e : j ≡ i = omega (arith, l, m) in absurd (n (subst P e p))) ];
   same = λ j l p. elim (cases_lt j i) [ inl m ↦ g.same j m p | inr m ↦ (let e : j ≡ i = omega (arith, l, m) in absurd (n (subst P e p))) ];
 }
 
-begun : (P : ℕ → Type 0) (C : ℕ → ℕ) (i : ℕ) (here : Birth) → AreReads P C i None → here.at ≡ i + 1 → here.class ≡ C i → P i → AreReads P C (suc i) (Some here)
-begun P C i here g e f p =
+begun : (P : ℕ → Type 0) (S K : ℕ → ℕ) (i : ℕ) (here : Birth) → AreReads P S K i None → here.at ≡ i + 1 → here.strand ≡ S i → P i → AreReads P S K (suc i) (Some here)
+begun P S K i here g e f p =
     let z : i ≡ here.at - 1 = omega (arith, e) in record {
       held = (omega (arith, e), omega (arith, e), subst P z p);
-      class = f ∙ ap C z;
+      strand = f ∙ ap S z;
       first = λ j l q. elim (cases_lt j i) [ inl m ↦ absurd (g j m q) | inr m ↦ omega (arith, e, m) ];
-      same = λ j l q. elim (cases_lt j i) [ inl m ↦ absurd (g j m q) | inr m ↦ (let y : j ≡ i = omega (arith, l, m) in ap C y ∙ sym f) ];
+      same = λ j l q. elim (cases_lt j i) [ inl m ↦ absurd (g j m q) | inr m ↦ (let y : j ≡ i = omega (arith, l, m) in ap K (ap S y ∙ sym f)) ];
     }
 
-joined : (P : ℕ → Type 0) (C : ℕ → ℕ) (i : ℕ) (b here : Birth) → AreReads P C i (Some b) → here.class ≡ C i → b.class ≡ here.class → AreReads P C (suc i) (Some b)
-joined P C i b here g f same =
+joined : (P : ℕ → Type 0) (S K : ℕ → ℕ) (i : ℕ) (b here : Birth) → AreReads P S K i (Some b) → here.strand ≡ S i → K b.strand ≡ K here.strand → AreReads P S K (suc i) (Some b)
+joined P S K i b here g f same =
     let h = g.held in let x = h.1 in record {
       held = (h.0, omega (arith, x), h.2);
-      class = g.class;
+      strand = g.strand;
       first = λ j l q. elim (cases_lt j i) [ inl m ↦ g.first j m q | inr m ↦ omega (arith, x, m) ];
-      same = λ j l q. elim (cases_lt j i) [ inl m ↦ g.same j m q | inr m ↦ (let y : j ≡ i = omega (arith, l, m) in ap C y ∙ (sym f ∙ sym same)) ];
+      same = λ j l q. elim (cases_lt j i) [ inl m ↦ g.same j m q | inr m ↦ (let y : j ≡ i = omega (arith, l, m) in ap K (ap S y ∙ sym f) ∙ sym same) ];
     }
 
 -- ---- one line of a trace
@@ -53,20 +54,20 @@ ReadsNow ls r i = ReadsViewAt ls r (retirements ls r i)
 
 -- what is kept of a reducer before the line with index i
 abbrev Keeps : Tree → List Line → ℕ → ℕ → Option Birth → Type 0
-Keeps t ls i r o = AreReads (ReadsNow ls r i) (class_at t ls) i o
+Keeps t ls i r o = AreReads (ReadsNow ls r i) (strand_of ls) (class t) i o
 
 -- the same lifetime continues
 abbrev Kept : Tree → List Line → ℕ → ℕ → Option Birth → Type 0
-Kept t ls i r o = AreReads (ReadsNow ls r i) (class_at t ls) (suc i) o
+Kept t ls i r o = AreReads (ReadsNow ls r i) (strand_of ls) (class t) (suc i) o
 
 goes_on : (t : Tree) (ls : List Line) (i r : ℕ) (l : Line) (o : Option Birth) → slice_get ls i ≡ Some l → retired_in l r ≡ 0 → Kept t ls i r o → Keeps t ls (suc i) r o
 goes_on t ls i r l o at z g =
     let e : retirements ls r i ≡ retirements ls r (suc i) = (let x = retirements_next ls r i l at in omega (arith, x, z)) in
-    subst (λ (a : ℕ). AreReads (ReadsViewAt ls r a) (class_at t ls) (suc i) o) e g
+    subst (λ (a : ℕ). AreReads (ReadsViewAt ls r a) (strand_of ls) (class t) (suc i) o) e g
 
 no_read : (t : Tree) (ls : List Line) (i r : ℕ) (l : Line) (o : Option Birth) → slice_get ls i ≡ Some l → retired_in l r ≡ 0 → (ReadsView (Some l) r → ⊥) → Keeps t ls i r o → Keeps t ls (suc i) r o
 no_read t ls i r l o at z n g =
-    goes_on t ls i r l o at z (skipped (ReadsNow ls r i) (class_at t ls) i o (λ p. n (subst (λ (x : Option Line). ReadsView x r) at p.0)) g)
+    goes_on t ls i r l o at z (skipped (ReadsNow ls r i) (strand_of ls) (class t) i o (λ p. n (subst (λ (x : Option Line). ReadsView x r) at p.0)) g)
 
 reads_here : (ls : List Line) (i r : ℕ) (l : Line) → slice_get ls i ≡ Some l → ReadsView (Some l) r → ReadsNow ls r i i
 reads_here ls i r l at p = (subst (λ (x : Option Line). ReadsView x r) (sym at) p, refl)
@@ -91,11 +92,11 @@ present None here h = absurd (let q : false ≡ true = h in cc q)
 present (Some b) here h = refl
 
 -- a line after which the first read of each lifetime is kept, and no race is found
-keeps_next : (t : Tree) (ls : List Line) (i : ℕ) (l : Line) (here : Birth) (births : ℕ → Option Birth) → slice_get ls i ≡ Some l → here.at ≡ i + 1 → here.class ≡ class_at t ls i
-    → Suits l (λ r. is_some (births r)) → (set_at l here births).class ≡ here.class → ((r : ℕ) → Keeps t ls i r (births r)) → (r : ℕ) → Keeps t ls (suc i) r (kept_of l r here (births r))
+keeps_next : (t : Tree) (ls : List Line) (i : ℕ) (l : Line) (here : Birth) (births : ℕ → Option Birth) → slice_get ls i ≡ Some l → here.at ≡ i + 1 → here.strand ≡ strand_of ls i
+    → Suits l (λ r. is_some (births r)) → class t (set_at l here births).strand ≡ class t here.strand → ((r : ℕ) → Keeps t ls i r (births r)) → (r : ℕ) → Keeps t ls (suc i) r (kept_of l r here (births r))
 keeps_next t ls i (lines.Create q s) here births at e f suits same g r = elim (same_reducer q r) [
   | inl w ↦ (let none : births r ≡ None = absent (births r) (subst (λ (x : ℕ). is_some (births x) ≡ false) w.0 suits) in
-      let now = begun (ReadsNow ls r i) (class_at t ls) i here (subst (Keeps t ls i r) none (g r)) e f (reads_here ls i r (lines.Create q s) at w.0) in
+      let now = begun (ReadsNow ls r i) (strand_of ls) (class t) i here (subst (Keeps t ls i r) none (g r)) e f (reads_here ls i r (lines.Create q s) at w.0) in
       let k = goes_on t ls i r (lines.Create q s) (Some here) at refl now in
       let b = w.1 in subst (λ (x : Bool). Keeps t ls (suc i) r (cond x (Some here) (births r))) (sym b) k)
   | inr w ↦ (let k = no_read t ls i r (lines.Create q s) (births r) at refl w.0 (g r) in
@@ -112,7 +113,7 @@ keeps_next t ls i (lines.Retire q s) here births at e f suits same g r = elim (s
 keeps_next t ls i (lines.Value q s) here births at e f suits same g r = elim (same_reducer q r) [
   | inl w ↦ (let some : births r ≡ Some (unwrap_or (births q) here) =
       present (births r) here (subst (λ (x : ℕ). is_some (births x) ≡ true) w.0 suits) ∙ ap (λ (x : ℕ). Some (unwrap_or (births x) here)) (sym w.0) in
-      let now = joined (ReadsNow ls r i) (class_at t ls) i (unwrap_or (births q) here) here (subst (Keeps t ls i r) some (g r)) f same in
+      let now = joined (ReadsNow ls r i) (strand_of ls) (class t) i (unwrap_or (births q) here) here (subst (Keeps t ls i r) some (g r)) f same in
       subst (Keeps t ls (suc i) r) (sym some) (goes_on t ls i r (lines.Value q s) (Some (unwrap_or (births q) here)) at refl now))
   | inr w ↦ no_read t ls i r (lines.Value q s) (births r) at refl w.0 (g r)
 ]
@@ -172,8 +173,8 @@ clean_next s ls sp i l births at g c p q le r = elim (cases_lt q (suc i)) [
       r.differ ((peers_at s ls sp (p - 1) (q - 1)).0 (same ∙ ap (class_at (tree s) ls) (sym e))))
 ]
 
-found_by : (s : Shape) (ls : List Line) → SpellsMarks s (marks_of ls) → (i q : ℕ) (b here : Birth) → here.class ≡ class_at (tree s) ls i → ReadsNow ls q i i
-    → Keeps (tree s) ls i q (Some b) → IsClean (tree s) ls i → b.class ≢ here.class → IsFirstTraceViewRace (tree s) ls b.at (i + 1)
+found_by : (s : Shape) (ls : List Line) → SpellsMarks s (marks_of ls) → (i q : ℕ) (b here : Birth) → here.strand ≡ strand_of ls i → ReadsNow ls q i i
+    → Keeps (tree s) ls i q (Some b) → IsClean (tree s) ls i → class (tree s) b.strand ≢ class (tree s) here.strand → IsFirstTraceViewRace (tree s) ls b.at (i + 1)
 found_by s ls sp i q b here f now g c ne =
     let z : i + 1 - 1 ≡ i = omega arith in
     let held = g.held in
@@ -185,7 +186,7 @@ found_by s ls sp i q b here f now g c ne =
         instance = record { reducer = q; age = retirements ls q i };
         one = held.2;
         other = subst (ReadsNow ls q i) (sym z) now;
-        differ = λ k. ne (g.class ∙ ((peers_at s ls sp (b.at - 1) (i + 1 - 1)).1 k ∙ (ap (class_at (tree s) ls) z ∙ sym f)));
+        differ = λ k. ne (ap (class (tree s)) g.strand ∙ ((peers_at s ls sp (b.at - 1) (i + 1 - 1)).1 k ∙ (ap (class_at (tree s) ls) z ∙ ap (class (tree s)) (sym f))));
       };
       least = λ p' q' r. elim (cases_lt i q') [ inl m ↦ omega (arith, m) | inr m ↦ absurd (c p' q' m r) ];
       first_read = λ k l r. elim (cases_lt (k - 1) i) [
@@ -195,8 +196,8 @@ found_by s ls sp i q b here f now g c ne =
     }
 
 -- the pair that is found is the first one
-found_next : (s : Shape) (ls : List Line) → SpellsMarks s (marks_of ls) → (i : ℕ) (l : Line) (here : Birth) (births : ℕ → Option Birth) → slice_get ls i ≡ Some l → here.class ≡ class_at (tree s) ls i
-    → Suits l (λ r. is_some (births r)) → ((r : ℕ) → Keeps (tree s) ls i r (births r)) → IsClean (tree s) ls i → (set_at l here births).class ≢ here.class
+found_next : (s : Shape) (ls : List Line) → SpellsMarks s (marks_of ls) → (i : ℕ) (l : Line) (here : Birth) (births : ℕ → Option Birth) → slice_get ls i ≡ Some l → here.strand ≡ strand_of ls i
+    → Suits l (λ r. is_some (births r)) → ((r : ℕ) → Keeps (tree s) ls i r (births r)) → IsClean (tree s) ls i → class (tree s) (set_at l here births).strand ≢ class (tree s) here.strand
     → IsFirstTraceViewRace (tree s) ls (set_at l here births).at (i + 1)
 found_next s ls sp i (lines.Value q s') here births at f suits g c ne =
     let some = present (births q) here suits in
@@ -216,11 +217,29 @@ alive_after ls i l here births births' at kept alive r =
     ap (λ (o : Option Birth). is_some o) (kept r)
     ∙ (alive_next l r here (births r) ∙ (ap (lives l r) (alive r) ∙ sym (lives_next ls r i false l at)))
 
+born_either : (ls : List Line) (b : Bool) (o p : Option Birth) → IsBorn ls o → IsBorn ls p → IsBorn ls (cond b o p)
+born_either ls true o p f g = f
+born_either ls false o p f g = g
+
+born_next : (ls : List Line) (l : Line) (r : ℕ) (here : Birth) (o : Option Birth) → IsStrand ls here.strand → IsBorn ls o → IsBorn ls (kept_of l r here o)
+born_next ls (lines.Create q s) r here o f g = born_either ls (eqb q r) (Some here) o f g
+born_next ls (lines.Retire q s) r here o f g = born_either ls (eqb q r) None o tt g
+born_next ls _ r here o f g = g
+
+born_or : (ls : List Line) (o : Option Birth) (here : Birth) → IsStrand ls here.strand → IsBorn ls o → IsStrand ls (unwrap_or o here).strand
+born_or ls None here f g = f
+born_or ls (Some b) here f g = g
+
+-- the strand that set the view that a line reads
+pub set_strand : (ls : List Line) (l : Line) (here : Birth) (births : ℕ → Option Birth) → IsStrand ls here.strand → ((r : ℕ) → IsBorn ls (births r)) → IsStrand ls (set_at l here births).strand
+set_strand ls (lines.Value r s) here births f g = born_or ls (births r) here f (g r)
+set_strand ls _ here births f g = f
+
 pub viewing_read : (s : Shape) (ls : List Line) → SpellsMarks s (marks_of ls) → (i strand strand' : ℕ) (l : Line) (here : Birth) (births births' : ℕ → Option Birth) (found found' : Option ViewRace)
-    → slice_get ls i ≡ Some l → here.at ≡ i + 1 → here.class ≡ class_at (tree s) ls i → strand' ≡ strand + begun_in l
+    → slice_get ls i ≡ Some l → here.at ≡ i + 1 → here.strand ≡ strand_of ls i → strand' ≡ strand + begun_in l
     → Suits l (λ r. is_some (births r)) → ((r : ℕ) → births' r ≡ kept_of l r here (births r))
-    → ((v : ViewRace) → found ≡ Some v → found' ≡ Some v) → (found' ≡ None → (set_at l here births).class ≡ here.class)
-    → ((v : ViewRace) → found ≡ None → found' ≡ Some v → ((set_at l here births).class ≢ here.class) × (v ≡ record { earlier = (set_at l here births).at; later = i + 1 }))
+    → ((v : ViewRace) → found ≡ Some v → found' ≡ Some v) → (found' ≡ None → class (tree s) (set_at l here births).strand ≡ class (tree s) here.strand)
+    → ((v : ViewRace) → found ≡ None → found' ≡ Some v → (class (tree s) (set_at l here births).strand ≢ class (tree s) here.strand) × (v ≡ record { earlier = (set_at l here births).at; later = i + 1 }))
     → Viewing (tree s) ls i strand births found → Viewing (tree s) ls (suc i) strand' births' found'
 viewing_read s ls sp i strand strand' l here births births' found found' at e f same_strand suits kept before clean new st =
     let none : found' ≡ None → found ≡ None = λ n. (elim found as (λ o. found ≡ o → found ≡ None) [
@@ -232,6 +251,7 @@ viewing_read s ls sp i strand strand' l here births births' found found' at e f 
     record {
       here = (let x = st.here in let y = strand_next ls i l at in omega (arith, x, y, same_strand));
       alive = alive_after ls i l here births births' at kept st.alive;
+      born = λ r. subst (IsBorn ls) (sym (kept r)) (born_next ls l r here (births r) (i, f) (st.born r));
       reads = keeps;
       clean = λ n. clean_next s ls sp i l births' at (keeps n) (st.clean (none n));
       race = λ v h. (elim found as (λ o. found ≡ o → IsFirstTraceViewRace (tree s) ls v.earlier v.later) [
@@ -242,39 +262,12 @@ viewing_read s ls sp i strand strand' l here births births' found found' at e f 
       ] refl);
     }
 
-idle_suits : (l : Line) (a : ℕ → Bool) → (IsOfReducer l → ⊥) → Suits l a
-idle_suits (lines.Create q s) a n = absurd (n tt)
-idle_suits (lines.Update q s) a n = absurd (n tt)
-idle_suits (lines.Value q s) a n = absurd (n tt)
-idle_suits (lines.Retire q s) a n = absurd (n tt)
-idle_suits _ a n = tt
-
-idle_keeps : (l : Line) (r : ℕ) (here : Birth) (o : Option Birth) → (IsOfReducer l → ⊥) → kept_of l r here o ≡ o
-idle_keeps (lines.Create q s) r here o n = absurd (n tt)
-idle_keeps (lines.Retire q s) r here o n = absurd (n tt)
-idle_keeps _ r here o n = refl
-
-idle_set : (l : Line) (here : Birth) (births : ℕ → Option Birth) → (IsOfReducer l → ⊥) → set_at l here births ≡ here
-idle_set (lines.Value q s) here births n = absurd (n tt)
-idle_set _ here births n = refl
-
-pub viewing_idle : (s : Shape) (ls : List Line) → SpellsMarks s (marks_of ls) → (i strand strand' : ℕ) (l : Line) (births : ℕ → Option Birth) (found : Option ViewRace)
-    → slice_get ls i ≡ Some l → strand' ≡ strand + begun_in l → (IsOfReducer l → ⊥)
-    → Viewing (tree s) ls i strand births found → Suits l (is_alive ls i) × Viewing (tree s) ls (suc i) strand' births found
-viewing_idle s ls sp i strand strand' l births found at same n st =
-    let here : Birth = record { class = class_at (tree s) ls i; at = i + 1 } in
-    let set = idle_set l here births n in
-    let class = ap (λ (b : Birth). b.class) set in (
-      idle_suits l (is_alive ls i) n,
-      viewing_read s ls sp i strand strand' l here births births found found at refl refl same (idle_suits l (λ r. is_some (births r)) n) (λ r. sym (idle_keeps l r here (births r) n))
-          (λ v k. k) (λ k. class) (λ v k h. (let c : None ≡ Some v = sym k ∙ h in absurd (cc c))) st,
-    )
-
 pub viewing_first : (t : Tree) (ls : List Line) (births : ℕ → Option Birth) (found : Option ViewRace) → ((r : ℕ) → births r ≡ None) → found ≡ None → Viewing t ls 0 1 births found
 viewing_first t ls births found e f = record {
   here = sym (strand_first ls);
   alive = λ r. ap (λ (o : Option Birth). is_some o) (e r) ∙ none_alive ls r;
-  reads = λ n r. subst (λ (o : Option Birth). AreReads (ReadsNow ls r 0) (class_at t ls) 0 o) (sym (e r)) (λ j m p. omega (arith, m));
+  born = λ r. subst (IsBorn ls) (sym (e r)) tt;
+  reads = λ n r. subst (λ (o : Option Birth). AreReads (ReadsNow ls r 0) (strand_of ls) (class t) 0 o) (sym (e r)) (λ j m p. omega (arith, m));
   clean = λ n p q l r. (let x = r.first in let y = r.earlier in omega (arith, l, x, y));
   race = λ v h. (let c : None ≡ Some v = sym f ∙ h in absurd (cc c));
 }

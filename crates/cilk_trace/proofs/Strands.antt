@@ -1,8 +1,10 @@
 -- The strands of a trace's lines, and how many lines clear a cell.
-use Rattle.std.proofs.Common.{◌≡◌, ℕ, zero, suc, ◌+◌, ◌<◌, ◌≤◌, List, [], ◌∷◌, refl, ap, subst, arith, Option, Some, None, slice_get, inl, inr}
+use Rattle.std.proofs.Common.{◌≡◌, ℕ, zero, suc, ◌+◌, ◌<◌, ◌≤◌, List, [], ◌∷◌, ◌++◌, length, refl, sym, ◌∙◌, ap, subst, arith, Option, Some, None, slice_get, inl, inr}
 use Rattle.std.specs.Prelude.{◌↔◌}
 use Rattle.std.proofs.lemmas.Bool.{cases_lt}
 use Rattle.cilk_types.specs.declared.invocation.Invocation.{Invocation}
+use Rattle.cilk_tree.specs.declared.mark.Mark.{Mark}
+use Rattle.cilk_tree.specs.declared.mark.Mark.TheVariants.{Begin, End, Sync, Resume, Spawn, Call, Plain}
 use Rattle.cilk_tree.specs.Marks.{begun_by}
 use Rattle.cilk_tree.specs.Shape.{Shape, SpellsMarks}
 use Rattle.cilk_tree.specs.Tree.{tree}
@@ -14,8 +16,7 @@ use Rattle.cilk_trace.specs.declared.line.Line.{Line}
 use Rattle.cilk_trace.specs.declared.line.Line.TheVariants as lines
 use Rattle.cilk_trace.specs.Frames.{ends}
 use Rattle.cilk_trace.specs.Marks.{started, marks_at, marks_after, marks_of}
-use Rattle.cilk_trace.specs.Accesses.{begun_in, strand_of, cleared_in, clears}
-use Rattle.cilk_trace.specs.Passes.{number}
+use Rattle.cilk_trace.specs.Accesses.{begun_in, strand_of, cleared_in, clears, number}
 
 clears_none : (ls : List Line) (c : ℕ) → clears ls c 0 ≡ 0
 clears_none [] c = refl
@@ -46,12 +47,12 @@ strand_next (k ∷ ls) zero l h =
     subst (λ (m : Line). begun_in k + strand_of ls 0 ≡ 1 + begun_in m) e (let z = strand_first ls in omega (arith, z))
 strand_next (k ∷ ls) (suc i) l h = let r = strand_next ls i l h in omega (arith, r)
 
-strand_positive : (ls : List Line) (i : ℕ) → 1 ≤ strand_of ls i
+pub strand_positive : (ls : List Line) (i : ℕ) → 1 ≤ strand_of ls i
 strand_positive ls zero = let z = strand_first ls in omega (arith, z)
 strand_positive [] (suc i) = omega arith
 strand_positive (l ∷ ls) (suc i) = let r = strand_positive ls i in omega (arith, r)
 
-strand_grows : (ls : List Line) (j i : ℕ) → j ≤ i → strand_of ls j ≤ strand_of ls i
+pub strand_grows : (ls : List Line) (j i : ℕ) → j ≤ i → strand_of ls j ≤ strand_of ls i
 strand_grows ls zero i le = let z = strand_first ls in let p = strand_positive ls i in omega (arith, z, p)
 strand_grows [] (suc j) zero le = absurd (omega (arith, le))
 strand_grows [] (suc j) (suc i) le = omega arith
@@ -105,3 +106,26 @@ parallel_lines s ls sp j i m =
           let f = ap (λ (x : ℕ). hebrew (tree s) x) e in
           ((λ h. absurd (omega (arith, h, f))), λ h. absurd (not_to_itself (tree s) 1 (strand_of ls i) (subst (λ (x : ℕ). Parallel (tree s) 1 x (strand_of ls i)) e h))))
     ]
+
+-- a strand of the first lines
+pub strand_front : (ls more : List Line) (i : ℕ) → i ≤ length ls → strand_of (ls ++ more) i ≡ strand_of ls i
+strand_front ls more zero le = strand_first (ls ++ more) ∙ sym (strand_first ls)
+strand_front [] more (suc i) le = absurd (omega (arith, le))
+strand_front (l ∷ ls) more (suc i) le = ap (λ (n : ℕ). begun_in l + n) (strand_front ls more i (omega (arith, le)))
+
+begun_one : (m : Mark) → begun_by m ≤ 1
+begun_one Begin = omega arith
+begun_one End = omega arith
+begun_one Sync = omega arith
+begun_one Resume = omega arith
+begun_one Spawn = omega arith
+begun_one Call = omega arith
+begun_one Plain = omega arith
+
+count_marks : (ms : List Mark) → count ms ≤ length ms
+count_marks [] = omega arith
+count_marks (m ∷ ms) = let c = count_marks ms in let b = begun_one m in omega (arith, c, b)
+
+-- strands are no more than marks
+pub strands_few : (ls : List Line) (i : ℕ) → strand_of ls i ≤ length (marks_of ls)
+strands_few ls i = let w = strands_within ls i in let c = count_marks (marks_after ls) in omega (arith, w, c)

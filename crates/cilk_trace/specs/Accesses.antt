@@ -1,6 +1,7 @@
 -- Which lines of a trace access which locations, in which strands, and which of them race.
 use Rattle.std.specs.Prelude.{◌≡◌, ℕ, zero, suc, ◌+◌, ◌-◌, ◌<◌, ◌≤◌, List, [], ◌∷◌, Bool, ◌&&◌, nat_le, nat_lt, Option, Some, slice_get, if◌then◌else◌}
 use Rattle.cilk_tree.specs.Tree.{Tree}
+use Rattle.cilk_tree.specs.Hebrew.{hebrew}
 use Rattle.cilk_tree.specs.Races.{Clash, IsFirstClash}
 use Rattle.cilk_trace.specs.declared.line.Cells.{Cells}
 use Rattle.cilk_trace.specs.declared.line.Line.{Line}
@@ -27,6 +28,10 @@ abbrev pub strand_of : List Line → ℕ → ℕ
 strand_of ls zero = 1
 strand_of [] (suc i) = 1
 strand_of (l ∷ ls) (suc i) = begun_in l + strand_of ls i
+
+-- the Hebrew number of the strand of the line with index i
+abbrev pub number : Tree → List Line → ℕ → ℕ
+number t ls i = hebrew t (strand_of ls i)
 
 abbrev pub Covers : Cells → ℕ → Type 0
 Covers k c = (k.first ≤ c) × (c < k.first + k.count)
@@ -79,9 +84,20 @@ Writes ls p o = WritesAt ls o.cell o.age (p - 1)
 abbrev pub IsTraceRace : Tree → List Line → ℕ → ℕ → Type 0
 IsTraceRace t ls = Clash Location t (strand_at ls) (Accesses ls) (Writes ls)
 
--- the first race of a trace
-abbrev pub IsFirstTraceRace : Tree → List Line → ℕ → ℕ → Type 0
-IsFirstTraceRace t ls = IsFirstClash Location t (strand_at ls) (Accesses ls) (Writes ls)
+-- the same, of this cell
+abbrev pub IsCellRace : Tree → List Line → ℕ → ℕ → ℕ → Type 0
+IsCellRace t ls c = Clash ℕ t (strand_at ls) (λ p age. AccessesAt ls c age (p - 1)) (λ p age. WritesAt ls c age (p - 1))
+
+-- the first race of a cell
+abbrev pub IsFirstCellRace : Tree → List Line → ℕ → ℕ → ℕ → Type 0
+IsFirstCellRace t ls c = IsFirstClash ℕ t (strand_at ls) (λ p age. AccessesAt ls c age (p - 1)) (λ p age. WritesAt ls c age (p - 1))
+
+-- The first race of a trace: it is the first one of its cell, no race ends earlier, and none that ends here is of a lesser cell.
+pub record IsFirstTraceRace (t : Tree) (ls : List Line) (p q : ℕ) : Type 0 where
+  pub cell : ℕ
+  pub first : IsFirstCellRace t ls cell p q
+  pub least : (p' q' : ℕ) → IsTraceRace t ls p' q' → q ≤ q'
+  pub least_cell : (c p' : ℕ) → IsCellRace t ls c p' q → cell ≤ c
 
 -- no two lines race
 abbrev pub HasNoTraceRace : Tree → List Line → Type 0

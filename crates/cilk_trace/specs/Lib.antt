@@ -7,11 +7,16 @@ pub mod Events
 pub mod Forms
 pub mod Frames
 pub mod Histories
+pub mod IntervalStacks
+pub mod Joined
 pub mod Judging
 pub mod Lines
 pub mod Marks
 pub mod Numbers
+pub mod Opened
+pub mod Pages
 pub mod Passes
+pub mod Positions
 pub mod Readers
 pub mod Reading
 pub mod Reducers
@@ -19,7 +24,6 @@ pub mod Structures
 pub mod Surveys
 pub mod TextReaders
 pub mod Texts
-pub mod Touching
 pub mod Unseen
-pub mod Viewing
 pub mod Views
+pub mod WholeEvents

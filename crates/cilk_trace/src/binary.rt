@@ -1,6 +1,7 @@
-//! Reading a trace's binary form byte by byte.
+//! Reading a trace's binary form: lines of a kind at once, all else byte by byte.
 
-ghost use Rattle.std.specs.Prelude.{◌≡◌, ◌+◌, ◌*◌, ◌<◌, ◌≤◌, ◌^◌, ◌==◌, ◌&&◌, nat_lt};
+ghost use Rattle.std.specs.Prelude.{◌≡◌, ◌+◌, ◌*◌, ◌<◌, ◌≤◌, ◌^◌, ◌++◌, ◌==◌, ◌&&◌, nat_lt, ℕ, List, length as len_of, drop, IfSome};
+ghost use Rattle.cilk_trace.specs.Numbers.{Next, numbers};
 ghost use Rattle.cilk_trace.specs.declared.place.Place.TheVariants.{Over};
 
 use crate::event::{Due, Kind, Step, access_line, next_step};
@@ -45,16 +46,62 @@ fn is_needless(byte: u8, unit: u64) -> bool
     byte == 0 && unit > 1
 }
 
+/// A number in a piece, and the place after it.
+#[derive(Clone, Copy)]
+struct Number {
+    value: u64,
+    end: usize,
+}
+
+/// A use of a kind in a piece, and the place after it.
+#[derive(Clone, Copy)]
+struct Used {
+    kind: usize,
+    cells: Cells,
+    end: usize,
+}
+
+// Returns the number that begins at a place of the piece, if all of it is there and may be.
+#[inline]
+fn number_at(piece: &[u8], at: usize) -> Option<Number>
+    ensures number { IfSome result (λ n. (more : List ℕ) → numbers (drop at piece.now ++ more) ≡ Next n.value (numbers (drop n.end piece.now ++ more))) }
+    ensures some { IfSome result (λ n. at < n.end) }
+    ensures within { IfSome result (λ n. n.end ≤ len_of piece.now) }
+    ensures short { IfSome result (λ n. n.end ≤ at + 268435456) }
+{
+    let mut value: u64 = 0;
+    let mut unit: u64 = 1;
+    let mut end = at;
+    'bytes: while end < piece.len() {
+        let byte = piece[end];
+        end += 1;
+        if byte < 128 {
+            if is_needless(byte, unit) {
+                return None;
+            }
+            value += u64::from(byte) * unit;
+            return Some(Number { value, end });
+        }
+        if unit > FOURTH_UNIT {
+            return None;
+        }
+        value += u64::from(byte - 128) * unit;
+        unit *= 128;
+    }
+    None
+}
+
 impl EventReader {
-    ghost use Rattle.std.specs.Prelude.{◌-◌, ◌≢◌, ℕ, List, [], ◌∷◌, ◌++◌, length as len_of, drop, Some, None, IfErr, IfNone, IfOk, IfSome, OnErr, OnOk, Err};
+    ghost use Rattle.std.specs.Prelude.{◌-◌, ◌≢◌, [], ◌∷◌, Some, None, IfErr, IfNone, IfOk, IsTrue, OnErr, OnOk, Err};
     ghost use Rattle.cilk_trace.specs.declared.event.Due.TheVariants as due;
     ghost use Rattle.cilk_trace.specs.declared.fault.TraceFault.{TraceFault};
     ghost use Rattle.cilk_trace.specs.declared.fault.TraceFault.TheVariants.{Malformed, Truncated};
-    ghost use Rattle.cilk_trace.specs.Binary.{after_number, after_step, binary_reading};
+    ghost use Rattle.cilk_trace.specs.Binary.{after_number, after_step, binary_reading, events_reading};
     ghost use Rattle.cilk_trace.specs.EventReaders.{ahead, events_in, fault_of, line_number, returned, room_for, room_of, HasSlot};
     ghost use Rattle.cilk_trace.specs.declared.event.Step.TheVariants.{Uses};
     ghost use Rattle.cilk_trace.specs.Events.{LeavesFewer};
     ghost use Rattle.cilk_trace.specs.Reading.{count_of, stops, whole, with_lines};
+    ghost use Rattle.cilk_trace.specs.WholeEvents.{step_reading};
 
     /// Makes a reader after the header of a binary form.
     pub fn new(alloc: Global) -> Self
@@ -130,6 +177,7 @@ impl EventReader {
     }
 
     // Takes the next step of an event.
+    #[inline]
     fn take_step(&mut self, step: Step) -> Option<Option<Line>>
         requires slot { HasSlot self.old }
         requires unit { self.old.unit ≡ 1 }
@@ -172,6 +220,64 @@ impl EventReader {
                 let line = self.use_kind(kind, cells)?;
                 Some(Some(line))
             }
+        }
+    }
+
+    // Tells whether an event is due, and nothing of it was read.
+    fn is_between(&self) -> bool
+        ensures unit { IsTrue result → self.now.unit ≡ 1 }
+        ensures due { IsTrue result → self.now.due ≡ due.Tag }
+        ensures place { IsTrue result → self.now.place ≢ Over }
+    {
+        self.unit == 1 && self.due.is_tag() && !self.place.is_over()
+    }
+
+    // Returns the use of a kind at the front of the piece, if all of it is there and may be.
+    #[inline]
+    fn used(&self, piece: &[u8]) -> Option<Used>
+        requires due { self.now.due ≡ due.Tag }
+        requires place { self.now.place ≢ Over }
+        ensures read { IfSome result (λ u. (more : List ℕ) → events_reading (events_in self.now) self.now.number (numbers (piece.now ++ more))
+            ≡ step_reading (events_in self.now) self.now.number (Uses u.kind u.cells) (numbers (drop u.end piece.now ++ more))) }
+        ensures some { IfSome result (λ u. 0 < u.end) }
+        ensures within { IfSome result (λ u. u.end ≤ len_of piece.now) }
+        ensures short { IfSome result (λ u. u.end ≤ 2 ^ 30) }
+    {
+        let tag = number_at(piece, 0)?;
+        let step = next_step(&self.kinds, self.last, Due::Tag, tag.value)?;
+        let Step::More(Due::Moved { kind }) = step else {
+            return None;
+        };
+        let moved = number_at(piece, tag.end)?;
+        match next_step(&self.kinds, self.last, Due::Moved { kind }, moved.value)? {
+            Step::Uses { kind, cells } => Some(Used {
+                kind,
+                cells,
+                end: moved.end,
+            }),
+            Step::More(due) => self.counted(piece, due, moved.end),
+            _ => None,
+        }
+    }
+
+    // Returns the use of a kind whose COUNT is at a place of the piece.
+    #[inline]
+    fn counted(&self, piece: &[u8], due: Due, at: usize) -> Option<Used>
+        requires place { self.now.place ≢ Over }
+        ensures read { IfSome result (λ u. (more : List ℕ) → events_reading (record (events_in self.now) { due = due }) self.now.number (numbers (drop at piece.now ++ more))
+            ≡ step_reading (events_in self.now) self.now.number (Uses u.kind u.cells) (numbers (drop u.end piece.now ++ more))) }
+        ensures some { IfSome result (λ u. at < u.end) }
+        ensures within { IfSome result (λ u. u.end ≤ len_of piece.now) }
+        ensures short { IfSome result (λ u. u.end ≤ at + 268435456) }
+    {
+        let count = number_at(piece, at)?;
+        match next_step(&self.kinds, self.last, due, count.value)? {
+            Step::Uses { kind, cells } => Some(Used {
+                kind,
+                cells,
+                end: count.end,
+            }),
+            _ => None,
         }
     }
 
@@ -231,7 +337,8 @@ impl EventReader {
     }
 
     /// Reads bytes from the front of the piece, up to the end of a line at most, or of a declaration
-    /// that took the room for one. It returns the number of bytes read, and the line if one is
+    /// that took the room for one. A line of a kind is read at once, where all of it is there; else
+    /// bytes are read one by one. It returns the number of bytes read, and the line if one is
     /// complete. The line's number is that of the current line before the call. A fault is
     /// returned as soon as a number shows it, and again by each later call.
     pub fn next(&mut self, piece: &[u8]) -> Result<(usize, Option<Line>), TraceFault>
@@ -249,6 +356,15 @@ impl EventReader {
     {
         if let Some(fault) = self.fault {
             return Err(fault);
+        }
+        if self.is_between() {
+            if let Some(used) = self.used(piece) {
+                let (kind, cells) = (used.kind, used.cells);
+                return match self.take_step(Step::Uses { kind, cells }) {
+                    Some(line) => Ok((used.end, line)),
+                    None => Err(self.malformed()),
+                };
+            }
         }
         let mut taken = 0;
         'bytes: while taken < piece.len() {

@@ -5,14 +5,14 @@ ghost use Rattle.cilk_trace.specs.Reducers.{Suits};
 ghost use Rattle.cilk_trace.specs.Births.{birth_of, alive_in, kept_of, set_at};
 
 use crate::line::Line;
-use cilk_types::event::Pos;
+use cilk_types::event::{Pos, StrandNo};
 use std::alloc::{AllocError, Global};
 use std::collections::HashMap;
 
-/// A line of a reducer: the peer class of its strand, and its position.
+/// A line of a reducer: its strand, and its position.
 #[derive(Clone, Copy)]
 pub struct Birth {
-    pub class: u32,
+    pub strand: StrandNo,
     pub at: Pos,
 }
 

@@ -1,6 +1,6 @@
 // Events of the binary form, by their numbers.
 
-ghost use Rattle.std.specs.Prelude.{◌≡◌, ◌+◌, IfSome};
+ghost use Rattle.std.specs.Prelude.{◌≡◌, ◌+◌, IfSome, IsTrue};
 ghost use Rattle.cilk_trace.specs.declared.event.Due.{Due};
 ghost use Rattle.cilk_trace.specs.declared.event.Due.TheVariants.{Tag};
 ghost use Rattle.cilk_trace.specs.Events.{access_line, deed_of, moved, reducer_line, small, step_of, tag_step, touch_of, uses, LeavesFewer};
@@ -55,6 +55,15 @@ pub(crate) enum Due {
     /// Of a line of a kind.
     Moved { kind: usize },
     UsedCount { kind: usize, first: u32 },
+}
+
+impl Due {
+    /// Tells whether an event's first number is due.
+    pub(crate) fn is_tag(self) -> bool
+        ensures { IsTrue result → self ≡ Tag }
+    {
+        matches!(self, Due::Tag)
+    }
 }
 
 /// What a number says.
@@ -178,6 +187,7 @@ pub(crate) fn access_line(touch: Touch, cells: Cells, site: u32) -> Line
 /// Returns what the next number of an event says, if it may be there. `last` is the first cell of
 /// the last line that has cells.
 #[tactic(auto, unfolding(crate::specs::Events::step_of))]
+#[inline(always)]
 pub(crate) fn next_step(kinds: &[Kind], last: u32, due: Due, number: u64) -> Option<Step>
     ensures step { result ≡ step_of kinds.now last due number }
     ensures fewer { IfSome result (λ s. LeavesFewer due s) }

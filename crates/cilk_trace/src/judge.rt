@@ -1,14 +1,11 @@
-//! The second reading of a trace: its races.
+//! The judgement of a trace, in one reading: is it a trace, and which two of its lines race?
 
-ghost use Rattle.std.specs.Prelude.{◌≡◌, ◌∷◌, ◌++◌, ◌+◌, ◌<◌, ◌≤◌, ◌^◌, [], List, IfOk, IfErr, OnOk, IsTrue, false, None, Some, length, slice_get};
+ghost use Rattle.std.specs.Prelude.{◌≡◌, ◌∷◌, ◌++◌, ◌+◌, ◌<◌, ◌^◌, [], List, IfOk, OnOk, suc, length, true};
 ghost use Rattle.cilk_trace.specs.Unseen.{unseen_by};
 
 use crate::line::Line;
 use crate::pass::{Met, Pass};
-use crate::structure::{Placing, Structure};
-use crate::survey::Known;
-use crate::views::{ViewPass, Viewed};
-use cilk_tree::mark::Mark;
+use crate::survey::{Survey, Surveyed};
 use cilk_types::event::Pos;
 use std::alloc::{AllocError, Global};
 
@@ -30,25 +27,14 @@ pub enum Verdict {
     ViewRace(Pos, Pos),
 }
 
-/// Whether a line can be of the trace that was surveyed.
-#[derive(Clone, Copy)]
-pub enum Judged {
-    Fits,
-    /// The second reading isn't that of the same trace.
-    Changed,
-}
-
-/// The second reading so far: its structure, both passes, and the first race of accesses.
+/// The judgement of a trace's lines so far: their survey, the pass over their accesses, the first race
+/// of these, and how many lines are `unseen`.
 ///
-/// It continues after a race, so that a trace is judged only where its structure is the one that was
-/// surveyed. Memory: 16 bytes for each cell of a page with an access, 24 for each reducer that is
-/// alive, and a byte a mark.
+/// It continues after a race, so that the first line that may not come is found, too.
 #[derive(Drop)]
-pub struct Judge<'a> {
-    known: &'a Known,
-    structure: Structure,
-    pass: Pass<'a>,
-    views: ViewPass<'a>,
+pub struct Judge {
+    survey: Survey,
+    pass: Pass,
     race: Option<Race>,
     unseen: u32,
 }
@@ -63,115 +49,62 @@ fn counted(unseen: u32, line: &Line) -> u32
     }
 }
 
-/// Tells whether two lists of marks are the same.
-fn are_same(one: &[Mark], other: &[Mark]) -> bool
-    ensures yes { IsTrue result → one.now ≡ other.now }
-    ensures no { result ≡ false → one.now ≡ other.now → ⊥ }
-{
-    if one.len() != other.len() {
-        return false;
-    }
-    for (at, mark) in one.iter().enumerate() {
-        if other[at] != *mark {
-            return false;
-        }
-    }
-    true
-}
-
-impl<'a> Judge<'a> {
+impl Judge {
     ghost use Rattle.cilk_trace.specs.declared.line.Line.{Line};
-    ghost use Rattle.cilk_trace.specs.Marks.{marks_of};
-    ghost use Rattle.cilk_trace.specs.Surveys.{IsKnownOf};
-    ghost use Rattle.cilk_tree.specs.Shape.{Shape};
-    ghost use Rattle.cilk_trace.specs.Passes.{IsBefore};
-    ghost use Rattle.cilk_trace.specs.Histories.{history_of};
-    ghost use Rattle.cilk_trace.specs.Judging.{IsAccessed, IsJudged, IsJudging, found_in};
+    ghost use Rattle.cilk_trace.specs.Surveys.{IsTrace, KeepsLimits};
+    ghost use Rattle.cilk_trace.specs.Judging.{IsAccessed, IsJudged, IsJudging};
 
-    /// Makes the second reading of no line, of the trace that was surveyed.
-    pub fn new(alloc: Global, known: &'a Known) -> Result<Judge<'a>, AllocError>
-        ensures begins { IfOk result (λ j. IsJudging [] j) }
-        ensures known { IfOk result (λ j. j.known.now ≡ known.now) }
+    /// Makes the judgement of no line.
+    pub fn new(alloc: Global) -> Result<Judge, AllocError>
+        ensures { IfOk result (λ j. IsJudging [] j) }
     {
         Ok(Judge {
-            known,
-            structure: Structure::new(alloc)?,
-            pass: Pass::new(alloc, &known.labels),
-            views: ViewPass::new(alloc, &known.classes),
+            survey: Survey::new(alloc)?,
+            pass: Pass::new(alloc),
             race: None,
             unseen: 0,
         })
     }
 
     /// Takes the next line.
-    pub fn meet(&mut self, line: &Line) -> Result<Judged, AllocError>
-        ensures fits { IfOk result (λ a. a ≡ Judged.Fits → (done : List Line) → IsJudging done self.old → IsJudging (done ++ line.now ∷ []) self.new) }
-        ensures changed { IfOk result (λ a. a ≡ Judged.Changed → (done more : List Line) → IsJudging done self.old → IsKnownOf (done ++ line.now ∷ more) self.old.known.now → ⊥) }
-        ensures known { self.new.known.now ≡ self.old.known.now }
+    pub fn meet(&mut self, line: &Line) -> Result<Surveyed, AllocError>
+        ensures fits { IfOk result (λ p. p ≡ Surveyed.Fits → (done : List Line) → IsJudging done self.old → IsJudging (done ++ line.now ∷ []) self.new) }
+        ensures misplaced { IfOk result (λ p. p ≡ Surveyed.Misplaced → (done more : List Line) → IsJudging done self.old → KeepsLimits (done ++ line.now ∷ []) → IsTrace (done ++ line.now ∷ more) → ⊥) }
     {
-        match self.structure.meet(line)? {
-            Placing::Fits => {}
-            Placing::Misplaced => return Ok(Judged::Changed),
-            Placing::TooMany => return Ok(Judged::Changed),
+        match self.survey.meet(line)? {
+            Surveyed::Fits => {}
+            Surveyed::Misplaced => return Ok(Surveyed::Misplaced),
         }
-        match self.views.meet(line)? {
-            Viewed::Fits => {
-                self.unseen = counted(self.unseen, line);
-                self.access(line)
-            }
-            Viewed::Misplaced => Ok(Judged::Changed),
-            Viewed::Foreign => Ok(Judged::Changed),
-        }
+        self.unseen = counted(self.unseen, line);
+        self.access(line)?;
+        Ok(Surveyed::Fits)
     }
 
-    // Takes the line as an access, if no race was met. Its position is the number of lines viewed.
-    fn access(&mut self, line: &Line) -> Result<Judged, AllocError>
-        ensures accessed { IfOk result (λ a. a ≡ Judged.Fits → IsAccessed self.old self.new line.now) }
-        ensures changed { IfOk result (λ a. a ≡ Judged.Changed → (self.old.race ≡ None) × (self.old.pass.count + 1 < 2 ^ 32 → (s : Shape) (ls : List Line) → slice_get ls self.old.pass.count ≡ Some line.now → IsBefore s ls self.old.pass.count self.old.pass.labels.now self.old.pass.strand (history_of self.old.pass.histories.pages.items) → ⊥)) }
-        ensures known { self.new.known ≡ self.old.known }
+    // Takes the line as an access, if no race was met. Its position is the number of lines surveyed.
+    fn access(&mut self, line: &Line) -> Result<(), AllocError>
+        requires { 0 < self.old.survey.count }
+        ensures accessed { OnOk result (IsAccessed self.old self.new line.now) }
     {
         if let Some(_) = self.race {
-            return Ok(Judged::Fits);
+            return Ok(());
         }
-        match self.pass.meet(line)? {
-            Met::Clean => Ok(Judged::Fits),
-            Met::Race(earlier) => {
-                let later = self.views.count();
-                self.race = Some(Race { earlier, later });
-                Ok(Judged::Fits)
-            }
-            Met::Foreign => Ok(Judged::Changed),
+        let later = self.survey.count();
+        if let Met::Race(earlier) = self.pass.meet(later, line)? {
+            self.race = Some(Race { earlier, later });
         }
+        Ok(())
     }
 
-    /// Returns the verdict after the last line; or `Changed`, where the lines aren't those of a
-    /// trace of the structure that was surveyed.
-    pub fn verdict(&self) -> Result<Verdict, Judged>
-        ensures limits { OnOk result ((first done : List Line) → IsKnownOf first self.now.known.now → IsJudging done self.now → length (marks_of done) ≤ 2 ^ 30) }
-        ensures judged { IfOk result (λ v. (first done : List Line) → IsKnownOf first self.now.known.now → IsJudging done self.now → IsJudged done v) }
-        ensures changed { IfErr result (λ _. (done : List Line) → IsJudging done self.now → IsKnownOf done self.now.known.now → ⊥) }
-    {
-        if !self.structure.has_ended() {
-            return Err(Judged::Changed);
-        }
-        if !are_same(self.structure.marks(), &self.known.marks) {
-            return Err(Judged::Changed);
-        }
-        // There are fewer than 2^32 lines.
-        let _lines = self.views.count();
-        Ok(self.found())
-    }
-
-    // What was found so far.
-    fn found(&self) -> Verdict
-        ensures { result ≡ found_in self.now }
+    /// Returns the verdict after the last line, the root's end.
+    pub fn verdict(&self, alloc: Global) -> Result<Verdict, AllocError>
+        ensures { IfOk result (λ v. (done : List Line) → IsJudging done self.now → self.now.survey.structure.ended ≡ true → IsJudged done v) }
     {
         if let Some(race) = self.race {
-            return Verdict::Race(race.earlier, race.later);
+            return Ok(Verdict::Race(race.earlier, race.later));
         }
-        match self.views.race() {
-            Some(race) => Verdict::ViewRace(race.earlier, race.later),
-            None => Verdict::RaceFree(self.unseen),
+        match self.survey.view_race(alloc)? {
+            Some(race) => Ok(Verdict::ViewRace(race.earlier, race.later)),
+            None => Ok(Verdict::RaceFree(self.unseen)),
         }
     }
 }

@@ -146,26 +146,11 @@ impl Structure {
         Ok(Placing::Fits)
     }
 
-    /// Returns whether the root has ended.
-    pub fn has_ended(&self) -> bool
-        ensures { result ≡ self.now.ended }
-    {
-        self.ended
-    }
-
     /// Returns the marks so far.
     pub fn marks(&self) -> &[Mark]
-        ensures { result.now ≡ self.now.marks }
+        ensures marks { result.now ≡ self.now.marks }
+        ensures few { length result.now ≤ 1073741824 }
     {
         &self.marks
-    }
-
-    /// Returns the marks.
-    pub fn into_marks(self) -> Vec<Mark>
-        ensures marks { result.items ≡ self.marks }
-        ensures few { length result.items ≤ 1073741824 }
-    {
-        let Structure { marks, .. } = self;
-        marks
     }
 }

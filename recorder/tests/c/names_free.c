@@ -2,7 +2,10 @@
 #include <cilk/cilk.h>
 #include <stdio.h>
 struct frame { int base; } frames[4];
-int depth, span = 5, recording, stack_low, load_address, used_sites;
+int depth, span = 5, recording, stack_low, load_address, used_sites, stack_bytes, is_writing, own_low, own_size, strand, segment;
+int top, is_all_written, is_looking, is_unseen_wanted, passed_by_exceptions, is_stripped, new_block, begin_run, put_enter;
+int put_end, put_sync, put_called, put_spawned, put_reducer, put_unseen, flush_buffer, open_trace, close_trace, ensure_frame;
+int set_mirrors, set_parallel, set_parallel_from, retire_locals, begin_candidate, library_begin, call_began, assembly_ran;
 int push(int x) { frames[depth].base = x; return depth++; }
 void end_frame(void) { depth--; }
 void give_up(void) { recording = 1; }

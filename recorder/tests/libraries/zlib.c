@@ -2,8 +2,11 @@
 #include <cilk/cilk.h>
 #include <string.h>
 #include "zlib.h"
-enum { BYTES = 400 };
-static unsigned char text[2][BYTES], packed[2][2 * BYTES], again[2][BYTES];
+#ifndef BYTES
+#define BYTES 400
+#endif
+enum { BLOCKS = 3 };
+static unsigned char text[BLOCKS][BYTES], packed[BLOCKS][2 * BYTES], again[BLOCKS][BYTES];
 static void pack(int k) {
   for (int i = 0; i < BYTES; i++) text[k][i] = (unsigned char)('a' + i * k % 7);
 #ifdef RACY
@@ -16,7 +19,7 @@ static void pack(int k) {
   uncompress(again[k], &m, to, n);
 }
 int main(void) {
-  for (int k = 0; k < 2; k++) cilk_spawn pack(k);
+  for (int k = 0; k < BLOCKS; k++) cilk_spawn pack(k);
   cilk_sync;
   return memcmp(text[1], again[1], BYTES);
 }

@@ -16,7 +16,7 @@ pub returns-in_ok-refusal-in-Stopped-clause-unaccepted : goal.returns-in_ok-refu
 returns-in_ok-refusal-in-Stopped-clause-unaccepted g c =
     let p = source c.args.program in
     refused_before p c.args.input (g.S.Source.remaining c.args.source.now) c.in_ok-right-in-Stopped.right.trace c.in-Stopped.field-0 c.in_ok-refusal-in-Stopped.refusal
-    (stops_at p c.args.input c.args.end c.in-Stopped.field-0 c.args.trace c.in_ok-right-in-Stopped.right.trace c.in-Stopped.is c.requires.ends c.in_ok-right-in-Stopped.ensures.trace)
+    (stops_at p c.args.input c.args.end c.in-Stopped.field-0 c.in-Stopped.field-1 c.in-Stopped.field-2 c.args.trace c.in_ok-right-in-Stopped.right.trace c.in-Stopped.is c.requires.ends c.in_ok-right-in-Stopped.ensures.trace)
     c.in_ok-refusal-in-Stopped.ensures.refused
 
 pub right_of-requires : goal.right_of-requires

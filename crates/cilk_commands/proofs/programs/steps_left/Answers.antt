@@ -1,18 +1,14 @@
-use Rattle.std.proofs.Common.{◌≡◌, rules}
-use Rattle.cilk_checker.specs.Judging.{Meant, meant}
-use Rattle.cilk_commands.proofs.Replying.{fault_shown}
+use Rattle.cilk_checker.specs.Judging.{meant}
+use Rattle.cilk_commands.proofs.Replying.{fault_shown, left_err, left_ok}
 use Rattle.cilk_commands.proofs.programs.steps_left.Goals as goal
 
-pub returns-in_ok-names-in-Ok-Some-clause-ok : goal.returns-in_ok-names-in-Ok-Some-clause-ok
-returns-in_ok-names-in-Ok-Some-clause-ok c =
-    let left = rw c.in-Ok-Some.field-0-is at c.in-Ok-Some.ensures.left in
-    let settled = rw c.in-Ok-Some.field-0-is at c.in-Ok-Some.ensures.settled in
-    let m : Meant = meant c.args.program.now in
-    let same : c.in_ok-names-in-Ok-Some.field-0 ≡ m.names = search rules in
-    (same, left, settled)
+pub returns-in-Ok-clause-ok : goal.returns-in-Ok-clause-ok
+returns-in-Ok-clause-ok c =
+    left_ok c.left.result c.args.workers c.args.steps.now (meant c.args.program.now) c.args.input.now c.in-Ok.outcome c.in-Ok.ensures.left c.in-Ok.ensures.settled
+    c.left.ensures.ok
 
-pub returns-in-Ok-None-clause-ok : goal.returns-in-Ok-None-clause-ok
-returns-in-Ok-None-clause-ok c = rw c.in-Ok-None.field-0-is at c.in-Ok-None.ensures.left
+pub returns-in-Ok-clause-err : goal.returns-in-Ok-clause-err
+returns-in-Ok-clause-err c = left_err c.left.result c.args.workers c.args.steps.now (meant c.args.program.now) c.args.input.now c.left.ensures.err
 
 pub returns-in-Err-clause-err : goal.returns-in-Err-clause-err
 returns-in-Err-clause-err c =

@@ -11,15 +11,15 @@ returns-in_err-program-clause-failure g c =
 pub returns-clause-answer : goal.returns-clause-answer
 returns-clause-answer g c =
     judged_ok (PlayShows c.args.script.now (g.F.Files.holds c.args.files.now c.args.script.now)
-    (g.F.Files.failed c.args.files.now) (g.F.Files.failed c.played.new.files) c.args.workers) c.played.result _ _ _ (meant c.in_ok-program.program) c.in_ok-program.input
+    (g.F.Files.failed c.args.files.now) (g.F.Files.failed c.played.new.files) c.args.manner) c.played.result _ _ _ (meant c.in_ok-program.program) c.in_ok-program.input
     (given_later _ _ _ _ _ _ _ _ _ c.in_ok-program.ensures.given)
-    (played_ok c.played.result c.args.script.now _ _ _ _ (g.F.Files.failed c.played.new.files) c.args.workers (meant c.in_ok-program.program) c.in_ok-program.input
+    (played_ok c.played.result c.args.script.now _ _ _ _ (g.F.Files.failed c.played.new.files) c.args.manner (meant c.in_ok-program.program) c.in_ok-program.input
     (c.given.ensures.same c.args.script.now) c.in_ok-program.ensures.uncounted c.played.ensures.answer)
 
 pub returns-clause-failure : goal.returns-clause-failure
 returns-clause-failure g c =
     judged_err (PlayShows c.args.script.now (g.F.Files.holds c.args.files.now c.args.script.now)
-    (g.F.Files.failed c.args.files.now) (g.F.Files.failed c.played.new.files) c.args.workers) c.played.result _ _ _ (meant c.in_ok-program.program) c.in_ok-program.input
+    (g.F.Files.failed c.args.files.now) (g.F.Files.failed c.played.new.files) c.args.manner) c.played.result _ _ _ (meant c.in_ok-program.program) c.in_ok-program.input
     (given_later _ _ _ _ _ _ _ _ _ c.in_ok-program.ensures.given)
-    (played_err c.played.result c.args.script.now _ _ _ _ (g.F.Files.failed c.played.new.files) c.args.workers (meant c.in_ok-program.program) c.in_ok-program.input
+    (played_err c.played.result c.args.script.now _ _ _ _ (g.F.Files.failed c.played.new.files) c.args.manner (meant c.in_ok-program.program) c.in_ok-program.input
     (c.given.ensures.same c.args.script.now) c.in_ok-program.ensures.uncounted c.played.ensures.failure)

@@ -8,7 +8,7 @@ use Rattle.cilk_commands.proofs.trace_texts.judge_text.Given as goal
 abbrev pub invariant-lines : goal.invariant-lines
 invariant-lines g l =
     (ls : List Line) × IsReading (g.S.Source.remaining l.fn.source) (g.S.Source.remaining l.source) ls l.pieces × IsJudging ls l.judge
-    × (l.judge.known.now ≡ l.known) × (g.S.Source.failed l.source ≡ g.S.Source.failed l.fn.source) × (g.S.Source.lender l.source ≡ g.S.Source.lender l.fn.source)
+    × (g.S.Source.failed l.source ≡ g.S.Source.failed l.fn.source) × (g.S.Source.lender l.source ≡ g.S.Source.lender l.fn.source)
     × (g.S.Source.kept l.source ≡ g.S.Source.kept l.fn.source)
 
 abbrev pub decreases-lines : goal.decreases-lines

@@ -17,11 +17,9 @@ returns-in_err-program c =
 pub returns-in-Some : goal.returns-in-Some
 returns-in-Some c =
     sym (some_script (found_of c.args.play.now) _ _ c.get_str.ensures c.in_ok-script.was
-    ∙ some_script_paths (found_of c.args.play.now) _ _ _ _ _ _ c.paths.ensures c.in_ok-program.was c.get_str-word.ensures c.workers_in.ensures
-    c.in-Some.is)
+    ∙ some_script_paths (rows_of (found_of c.args.play.now)) _ _ _ _ _ c.paths.ensures c.in_ok-program.was c.manner_in.ensures c.in-Some.is)
 
 pub returns-in-None : goal.returns-in-None
 returns-in-None c =
     sym (some_script (found_of c.args.play.now) _ _ c.get_str.ensures c.in_ok-script.was
-    ∙ some_script_paths (found_of c.args.play.now) _ _ _ _ _ _ c.paths.ensures c.in_ok-program.was c.get_str-word.ensures c.workers_in.ensures
-    c.in-None.is)
+    ∙ some_script_paths (rows_of (found_of c.args.play.now)) _ _ _ _ _ c.paths.ensures c.in_ok-program.was c.manner_in.ensures c.in-None.is)

@@ -1,26 +1,18 @@
-use Rattle.std.proofs.Common.{arith, ◌≡◌, ◌∙◌, sym, subst, true, false}
+use Rattle.std.proofs.Common.{Option, subst}
+use Rattle.cilk_trace.specs.declared.views.ViewRace.{ViewRace}
 use Rattle.cilk_trace.specs.Judging.{IsJudged}
-use Rattle.cilk_trace.proofs.Judgements.{judged, judged_limits, changed_whole}
+use Rattle.cilk_trace.proofs.Judgements.{race_judged, verdict_by, views_judged}
 use Rattle.cilk_trace.proofs.judge.Judge.verdict.Goals as goal
 
-pub returns-then-not-has_ended-clause-changed : goal.returns-then-not-has_ended-clause-changed
-returns-then-not-has_ended-clause-changed c = λ done j k.
-    let w = changed_whole done c.args.self.now j k in
-    let e : false ≡ true = sym c.if-not-has_ended.true ∙ (c.has_ended.ensures ∙ w.0) in
-    absurd (cc e)
+pub returns-in-Some : goal.returns-in-Some
+returns-in-Some c = λ done j ended. race_judged done c.args.self.now c.in-Some.race j ended c.in-Some.is
 
-pub returns-then-not-are_same-clause-changed : goal.returns-then-not-are_same-clause-changed
-returns-then-not-are_same-clause-changed c = λ done j k.
-    let w = changed_whole done c.args.self.now j k in
-    c.are_same.ensures.no c.if-not-are_same.true (c.marks.ensures ∙ (w.1 ∙ sym c.deref.ensures.value))
+pub returns-in-Some-2 : goal.returns-in-Some-2
+returns-in-Some-2 c = λ done j ended.
+    subst (λ (o : Option ViewRace). IsJudged done (verdict_by c.args.self.now.unseen o)) c.in-Some-2.is
+    (views_judged done c.args.self.now c.in_ok-race.field-0 j ended c.in_default.is c.in_ok-race.ensures)
 
-pub returns-clause-limits : goal.returns-clause-limits
-returns-clause-limits c = λ first done k j.
-    judged_limits first done c.args.self.now k j (sym c.has_ended.ensures ∙ c.if-not-has_ended.false)
-    (sym c.marks.ensures ∙ (c.are_same.ensures.yes c.if-not-are_same.false ∙ c.deref.ensures.value))
-
-pub returns-clause-judged : goal.returns-clause-judged
-returns-clause-judged c = λ first done k j.
-    let ended = sym c.has_ended.ensures ∙ c.if-not-has_ended.false in
-    let same = sym c.marks.ensures ∙ (c.are_same.ensures.yes c.if-not-are_same.false ∙ c.deref.ensures.value) in
-    subst (IsJudged done) (sym c.found.ensures) (judged first done c.args.self.now k j ended same (let n = c.count-lines.ensures in omega (arith, n)))
+pub returns-in-None : goal.returns-in-None
+returns-in-None c = λ done j ended.
+    subst (λ (o : Option ViewRace). IsJudged done (verdict_by c.args.self.now.unseen o)) c.in-None.is
+    (views_judged done c.args.self.now c.in_ok-race.field-0 j ended c.in_default.is c.in_ok-race.ensures)

@@ -1,0 +1,106 @@
+//! What a schedule leaves, beside what the serial run leaves.
+
+use cilk_findings::scene::Scene;
+use cilk_messages::sentence::{Part, Sentence, say};
+use cilk_parser::script::Step;
+use cilk_schedule::{PlayFault, play_steps_on};
+use cilk_types::outcome::{Final, Outcome};
+use std::alloc::AllocError;
+
+/// `play` doesn't take the schedule.
+pub const NONE: u8 = 0;
+
+/// Its outcome is the serial run's.
+pub const SAME: u8 = 1;
+
+/// It leaves other values in global variables, and nothing else.
+pub const OTHER: u8 = 2;
+
+/// It leaves another result, output or reducer, or stops by a fault.
+pub const MOST: u8 = 3;
+
+const GLOBALS: &str =
+    "this script for `play{}` leaves other values in global variables than `run`; of {} scripts that were tried, \
+     none shows more";
+
+const NOTHING: &str =
+    "this script for `play{}` makes the later access first; {} scripts were tried, and all leave what `run` leaves";
+
+const STOPS: &str = "by this script for `play{}` the run stops by fault {}";
+
+const RESULT: &str = "this script for `play{}` leaves the result {}, where `run` shows {}";
+
+const OUTPUT: &str = "this script for `play{}` prints other numbers than `run`";
+
+const REDUCER: &str = "this script for `play{}` leaves another value in a reducer than `run`";
+
+/// How many workers play a script, and the words that say so after `play`.
+#[derive(Clone, Copy)]
+pub struct Players {
+    pub count: u32,
+    pub words: &'static str,
+}
+
+/// The workers that `play` has without further words.
+pub const TWO: Players = Players {
+    count: 2,
+    words: "",
+};
+
+/// Plays steps. Returns how much their outcome tells a reader, and in words how it differs from the
+/// serial run's. Where it tells little, the next gap of the words is for how many scripts were tried.
+pub fn played(
+    scene: &Scene<'_>,
+    serial: &Outcome,
+    players: Players,
+    steps: &[Step],
+) -> Result<(u8, Sentence<'static>), AllocError> {
+    let Scene { case, run } = scene;
+    let workers = players.count.max(1);
+    match play_steps_on(case.alloc, &run.code, &case.input, workers, steps) {
+        Ok(Some(outcome)) => Ok(differing(&outcome, serial, players.words)),
+        Ok(None) | Err(PlayFault::Line(_)) => Ok((NONE, say(""))),
+        Err(PlayFault::Stop { fault, .. }) => {
+            let words = say(STOPS).text(players.words);
+            Ok((MOST, words.count(fault.number() as usize)))
+        }
+        Err(PlayFault::Memory) => Err(AllocError),
+    }
+}
+
+// The difference between an outcome and the serial run's.
+fn differing(
+    outcome: &Outcome,
+    serial: &Outcome,
+    players: &'static str,
+) -> (u8, Sentence<'static>) {
+    if outcome.result != serial.result {
+        let left = say(RESULT).text(players).with(Part::Number(outcome.result));
+        (MOST, left.with(Part::Number(serial.result)))
+    } else if outcome.output.as_slice() != serial.output.as_slice() {
+        (MOST, say(OUTPUT).text(players))
+    } else if !are_same(outcome.reducers.as_slice(), serial.reducers.as_slice()) {
+        (MOST, say(REDUCER).text(players))
+    } else if outcome.globals.as_slice() != serial.globals.as_slice() {
+        (OTHER, say(GLOBALS).text(players))
+    } else {
+        (SAME, say(NOTHING).text(players))
+    }
+}
+
+fn are_same(one: &[Final], other: &[Final]) -> bool {
+    if one.len() != other.len() {
+        return false;
+    }
+    for (left, right) in one.iter().zip(other.iter()) {
+        let same = match (left, right) {
+            (Final::Number(left), Final::Number(right)) => left == right,
+            (Final::List(left), Final::List(right)) => left.as_slice() == right.as_slice(),
+            _ => false,
+        };
+        if !same {
+            return false;
+        }
+    }
+    true
+}

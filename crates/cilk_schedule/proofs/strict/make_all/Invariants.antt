@@ -1,0 +1,11 @@
+use Rattle.std.proofs.Common.{◌≡◌, ◌++◌, List, drop}
+use Rattle.cilk_parser.specs.declared.script_choices.TheConstants.{MAX_CHOICES}
+use Rattle.cilk_schedule.specs.Played.{IsUnstopped}
+use Rattle.cilk_schedule.specs.Strict.{HasMade, LineTask, tasks_within}
+use Rattle.cilk_schedule.proofs.strict.make_all.Given as goal
+
+abbrev pub invariant-steps : goal.invariant-steps
+invariant-steps l = record {
+  going : IsUnstopped l.machine;
+  made : (done : List LineTask) × (tasks_within MAX_CHOICES l.steps ≡ done ++ tasks_within l.room (drop l.step-index l.steps)) × HasMade l.workers l.fn.machine done l.machine;
+}

@@ -1,0 +1,42 @@
+use Rattle.std.proofs.Common.{◌≡◌, ◌+◌, ◌-◌, ◌++◌, ◌∷◌, [], ℕ, List, sym, ap, ◌∙◌, subst, append_assoc, arith}
+use Rattle.std.specs.Prelude.{replicate}
+use Rattle.std.proofs.lemmas.List.{append-nil}
+use Rattle.std.proofs.lemmas.Grind.{replicate_next}
+use Rattle.cilk_schedule.specs.Playing.{Choose}
+use Rattle.cilk_schedule.specs.Strict.{FailsStrictly, HasMade, LineTask}
+use Rattle.cilk_schedule.proofs.Following.{handed}
+use Rattle.cilk_schedule.proofs.Strictly.{replicate_around}
+use Rattle.cilk_schedule.proofs.strict.repeat.Goals as goal
+
+pub times-init : goal.times-init
+times-init c = record {
+  going = c.requires;
+  made = λ workers first done h. subst (λ ts. HasMade workers first ts c.args.machine.now) (sym (append-nil done)) h;
+}
+
+pub times-preserved : goal.times-preserved
+times-preserved c =
+    let x : LineTask = record { line = c.args.line; task = Choose c.args.choice } in
+    record {
+      going = c.in_ok-make.ensures.going;
+      made = λ workers first done h.
+          subst (λ ts. HasMade workers first ts c.make.new.machine) (append_assoc done (replicate c.times._made x) (x ∷ []) ∙ ap (λ ts. done ++ ts) (sym (replicate_next c.times._made x)))
+          (c.in_ok-make.ensures.made workers first (done ++ replicate c.times._made x) (c.times.invariant.made workers first done h));
+    }
+
+pub returns-in_err-make-clause-fault : goal.returns-in_err-make-clause-fault
+returns-in_err-make-clause-fault c =
+    let x : LineTask = record { line = c.args.line; task = Choose c.args.choice } in
+    let n = c.times._made in
+    let left = c.args.count - (n + 1) in
+    handed c.from_residual.result c.in_err-make.field-0.0
+    (λ f. (workers : ℕ) (first : _) (done behind : List LineTask) → HasMade workers first done c.args.machine.now → FailsStrictly workers first (done ++ (replicate c.args.count x ++ behind)) f) c.from_residual.ensures.1
+    (λ workers first done behind h.
+    subst (λ ts. FailsStrictly workers first ts c.in_err-make.field-0.0) (replicate_around done n left c.args.count x behind (omega arith))
+    (c.in_err-make.ensures.fault workers first (done ++ replicate n x) (replicate left x ++ behind) (c.times.invariant.made workers first done h)))
+
+pub returns-clause-made : goal.returns-clause-made
+returns-clause-made c = λ workers first done h.
+    let x : LineTask = record { line = c.args.line; task = Choose c.args.choice } in
+    let all : c.times._made ≡ c.args.count = omega arith in
+    subst (λ n. HasMade workers first (done ++ replicate n x) c.times.machine) all (c.times.invariant.made workers first done h)
