@@ -1,9 +1,11 @@
 -- Maps as lists of entries: what is found, by places.
-use Rattle.std.proofs.Common.{◌≡◌, ℕ, zero, suc, ◌+◌, ◌<◌, Bool, true, false, cond, List, [], ◌∷◌, ◌++◌, map, length, slice_get, Option, Some, None, IsSome, is_some, sym, ap, ◌∙◌, refl, subst, true≢false, arith, below_more}
+use Rattle.std.proofs.Common.{◌≡◌, ℕ, zero, suc, ◌+◌, ◌<◌, Bool, true, false, cond, List, [], ◌∷◌, ◌++◌, map, length, slice_get, Option, Some, None, Box, IsSome, IfSome, option_to_list, is_some, sym, ap, ◌∙◌, refl, subst, true≢false, arith, below_more}
 use Rattle.std.specs.Map.{lookup, keys_of}
 use Rattle.std.specs.Option.{option_map, unwrap_or}
+use Rattle.indexmap.specs.IndexMap.{IndexMap}
 use Rattle.cilk_types.specs.declared.event.Instance.{Instance}
 use Rattle.cilk_monoid.specs.Ranges.{same_instance}
+use Rattle.cilk_hypermap.specs.Views.{entries_in}
 use Rattle.cilk_monoid.proofs.RangeLaws.{same_from_true, same_self}
 
 pub slice_get-map : {X Y : Type 0} (f : X → Y) (xs : List X) (i : ℕ) → slice_get (map f xs) i ≡ option_map f (slice_get xs i)
@@ -54,3 +56,23 @@ is_some-option_map f (Some x) = refl
 pub found_last : {X : Type 0} (es fs : List (Instance × X)) (k : Instance) (v : X) → es ≡ fs ++ (k, v) ∷ [] → lookup (same_instance k) fs ≡ cond (same_instance k k) None (lookup (same_instance k) es) → lookup (same_instance k) es ≡ Some v
 found_last es fs k v e gone =
     ap (lookup (same_instance k)) e ∙ lookup_last fs k v (gone ∙ ap (λ b. cond b None (lookup (same_instance k) es)) (same_self k))
+
+-- what is popped from the end of a map was found by its key
+pub popped : {X : Type 0} (o : Option (Instance × X)) (es fs : List (Instance × X)) → es ≡ fs ++ option_to_list o
+    → IfSome o (λ p. (q : Instance) → lookup (same_instance q) fs ≡ cond (same_instance p.0 q) None (lookup (same_instance q) es)) → IfSome o (λ p. lookup (same_instance p.0) es ≡ Some p.1)
+popped None es fs e gone = tt
+popped (Some p) es fs e gone = found_last es fs p.0 p.1 e (gone p.0)
+
+-- a fact of what is there gives another one
+pub if_some : {X : Type 0} {P Q : X → Type 0} (o : Option X) → ((x : X) → P x → Q x) → IfSome o P → IfSome o Q
+if_some None f h = tt
+if_some (Some x) f h = f x h
+
+-- a function of one of two
+pub option_map-cond : {X Y : Type 0} (f : X → Y) (b : Bool) (o p : Option X) → option_map f (cond b o p) ≡ cond b (option_map f o) (option_map f p)
+option_map-cond f true o p = refl
+option_map-cond f false o p = refl
+
+-- the entries of a map behind its box
+pub behind : {K X S A : Type 0} (o : Option (Box (IndexMap K X S) A)) (b : Box (IndexMap K X S) A) (m : IndexMap K X S) → o ≡ Some b → m ≡ b.value → m.entries ≡ entries_in o
+behind o b m is at = ap (λ (h : IndexMap _ _ _). h.entries) at ∙ ap entries_in (sym is)

@@ -1,5 +1,5 @@
 -- Views to which units were added, and products with them.
-use Rattle.std.proofs.Common.{◌≡◌, true, false, Option, Some, None, IsSome, is_some, ◌⊎◌, inl, inr, sym, ap, ◌∙◌, refl, subst, true≢false}
+use Rattle.std.proofs.Common.{◌≡◌, Option, Some, None, IsSome, is_some, ◌⊎◌, inl, inr, sym, ap, ◌∙◌, refl, subst, true≢false}
 use Rattle.std.specs.Option.{option_map}
 use Rattle.cilk_monoid.specs.Laws.{MonoidStructure, IsLawful}
 use Rattle.cilk_monoid.specs.Values.{ViewValue}

@@ -1,17 +1,15 @@
 -- Merges of hypermaps, one kind at a time.
 use Rattle.std.proofs.Common.{◌≡◌, None, IsSome, ◌⊎◌, sym, ap, ◌∙◌, subst}
-use Rattle.indexmap.specs.IndexMap.{get}
 use Rattle.cilk_types.specs.declared.event.Instance.{Instance}
 use Rattle.cilk_monoid.specs.declared.kind.MonoidKind.{MonoidKind}
 use Rattle.cilk_monoid.specs.declared.kind.MonoidKind.TheVariants.{Add, Least, Greatest, Append, Affine}
 use Rattle.cilk_monoid.specs.Kinds.{structure_of, IsMember}
 use Rattle.cilk_monoid.specs.Lawful.{lawful}
-use Rattle.cilk_monoid.specs.Ranges.{same_instance}
 use Rattle.cilk_monoid.specs.Views.{number_value, list_value, affine_value}
 use Rattle.cilk_hypermap.specs.declared.hypermap.Hypermap.{Hypermap}
 use Rattle.cilk_hypermap.specs.Hypermap.{EachKind, view_in, value_in}
 use Rattle.cilk_hypermap.specs.Ranges.{JoinsRanges}
-use Rattle.cilk_hypermap.specs.Views.{merged, or_unit}
+use Rattle.cilk_hypermap.specs.Views.{found, merged, or_unit}
 use Rattle.cilk_monoid.proofs.RangeLaws.{view_of-adjoining}
 use Rattle.cilk_hypermap.proofs.Fills.{FillsOne, IsMemberIfAny, keeps_value, merged_two, merged_room, merged_some, merged_member, or_unit-merged, members_by_type}
 
@@ -25,11 +23,11 @@ each_kind P h Affine = h.4
 
 -- a view of a kind is a member of its monoid
 pub view_in_member : (h : Hypermap) (k : MonoidKind) (j : Instance) → IsMemberIfAny (structure_of k) (IsMember k) (lawful k) (view_in h k j)
-view_in_member h Add j = members_by_type (IsMember Add) (structure_of Add) (lawful Add) number_value (λ v. v.word) (get same_instance h.sums.views j)
-view_in_member h Least j = members_by_type (IsMember Least) (structure_of Least) (lawful Least) number_value (λ v. v.word) (get same_instance h.least.views j)
-view_in_member h Greatest j = members_by_type (IsMember Greatest) (structure_of Greatest) (lawful Greatest) number_value (λ v. v.word) (get same_instance h.greatest.views j)
-view_in_member h Append j = members_by_type (IsMember Append) (structure_of Append) (lawful Append) list_value (λ v. v.words) (get same_instance h.lists.views j)
-view_in_member h Affine j = members_by_type (IsMember Affine) (structure_of Affine) (lawful Affine) affine_value (λ v. (v.factor_word, v.offset_word)) (get same_instance h.maps.views j)
+view_in_member h Add j = members_by_type (IsMember Add) (structure_of Add) (lawful Add) number_value (λ v. v.word) (found h.sums j)
+view_in_member h Least j = members_by_type (IsMember Least) (structure_of Least) (lawful Least) number_value (λ v. v.word) (found h.least j)
+view_in_member h Greatest j = members_by_type (IsMember Greatest) (structure_of Greatest) (lawful Greatest) number_value (λ v. v.word) (found h.greatest j)
+view_in_member h Append j = members_by_type (IsMember Append) (structure_of Append) (lawful Append) list_value (λ v. v.words) (found h.lists j)
+view_in_member h Affine j = members_by_type (IsMember Affine) (structure_of Affine) (lawful Affine) affine_value (λ v. (v.factor_word, v.offset_word)) (found h.maps j)
 
 -- the values are kept where units were filled in
 pub values_kept : (old new : Hypermap) (k : MonoidKind) (Need : Instance → Type 0) → ((j : Instance) → FillsOne (structure_of k).unit (Need j) (view_in old k j) (view_in new k j)) → (j : Instance) → value_in new k j ≡ value_in old k j

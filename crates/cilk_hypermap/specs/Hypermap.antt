@@ -1,6 +1,6 @@
 -- The definitions in the contracts of `Hypermap`: a finite map from kinds and instances to the
 -- values of their views (hypermaps: Frigo, Halpern, Leiserson and Lewin-Berlin 2009).
-use Rattle.std.specs.Prelude.{◌≡◌, Bool, true, false, cond, ◌&&◌, Option, Some, None, ◌⊎◌}
+use Rattle.std.specs.Prelude.{◌≡◌, cond, ◌&&◌, Option, Some, None, ◌⊎◌}
 use Rattle.cilk_types.specs.declared.event.Instance.{Instance}
 use Rattle.cilk_monoid.specs.declared.kind.MonoidKind.{MonoidKind}
 use Rattle.cilk_monoid.specs.declared.kind.MonoidKind.TheVariants.{Add, Least, Greatest, Append, Affine}

@@ -1,8 +1,9 @@
 -- The definitions in the contracts of `Views`: a finite map from instances to the values of their
 -- views.
-use Rattle.std.specs.Prelude.{◌≡◌, ℕ, ◌+◌, ◌≤◌, cond, Option, Some, None, IsSome, ◌⊎◌}
+use Rattle.std.specs.Prelude.{◌≡◌, ℕ, ◌+◌, ◌≤◌, cond, List, [], Option, Some, None, IsSome, ◌⊎◌, Box}
 use Rattle.std.specs.Option.{option_map, unwrap_or}
-use Rattle.indexmap.specs.IndexMap.{get}
+use Rattle.indexmap.specs.IndexMap.{IndexMap}
+use Rattle.std.specs.Map.{lookup}
 use Rattle.cilk_types.specs.declared.event.Instance.{Instance}
 use Rattle.cilk_monoid.specs.Laws.{MonoidStructure}
 use Rattle.cilk_monoid.specs.Ranges.{same_instance}
@@ -23,10 +24,24 @@ or_unit S o = unwrap_or o S.unit
 abbrev pub output : Instance
 output = record { frame = 0; place = 0 }
 
+-- the entries of a map that is made once it has one
+abbrev pub entries_in : {K X S A : Type 0} → Option (Box (IndexMap K X S) A) → List (K × X)
+entries_in None = []
+entries_in (Some b) = b.value.entries
+
+module _ {M V : Type 0} where
+  -- the instances that have a view, each with that
+  abbrev pub entries : Views M V → List (Instance × V)
+  entries m = entries_in m.views
+
+  -- the view of i, if there is one
+  abbrev pub found : Views M V → Instance → Option V
+  found m i = lookup (same_instance i) (entries m)
+
 module _ {M V : Type 0} (value : V → ViewValue) where
   -- the value of the view of i, if there is one
   abbrev pub view_at : Views M V → Instance → Option ViewValue
-  view_at m i = option_map value (get same_instance m.views i)
+  view_at m i = option_map value (found m i)
 
   -- the view at i is w now, and the others are unchanged
   abbrev pub ChangesAt : Views M V → Views M V → Instance → Option ViewValue → Type 0
@@ -38,7 +53,7 @@ module _ {M V : Type 0} (value : V → ViewValue) where
 
 -- how much room the view of i has reserved, 0 where there is none
 abbrev pub room_at : {M V : Type 0} → (V → ℕ) → Views M V → Instance → ℕ
-room_at reserved m i = unwrap_or (option_map reserved (get same_instance m.views i)) 0
+room_at reserved m i = unwrap_or (option_map reserved (found m i)) 0
 
 module _ {M V : Type 0} (S : MonoidStructure ViewValue) (value : V → ViewValue) where
   -- the value of the view of i, where an absent view counts as the unit

@@ -3,11 +3,12 @@
 //! A merge has two steps. The first reserves room in the left map for each view of the right one,
 //! and may run out of memory. The second moves the right views over, and can't fail.
 
-ghost use Rattle.std.specs.Prelude.{◌≡◌, ◌+◌, ◌<◌, ◌≤◌, ◌^◌, ℕ, if◌then◌else◌, cond, Option, None, Some, IsSome, IsOk, OnOk, OnErr, IfOk, IfErr, ◌⊎◌};
-ghost use Rattle.std.specs.Option.{option_map};
+ghost use Rattle.std.specs.Prelude.{◌≡◌, ◌+◌, ◌<◌, ◌≤◌, ◌^◌, ℕ, if◌then◌else◌, cond, [], length, slice_get, Option, None, Some, IsSome, IfSome, IfNone, IsOk, OnOk, OnErr, IfOk, IfErr, ◌⊎◌};
+ghost use Rattle.std.specs.Option.{option_map, option_copied};
+ghost use Rattle.std.specs.Map.Iter.{deref_pair};
 ghost use Rattle.cilk_types.specs.declared.event.Instance.{Instance};
 ghost use Rattle.cilk_monoid.specs.Ranges.{same_instance};
-ghost use Rattle.cilk_hypermap.specs.Views.{merged, output, view_at, value_at, room_at, size_at, ChangesAt, KeepsViews, KeepsValues, FillsIn, HasRoom};
+ghost use Rattle.cilk_hypermap.specs.Views.{entries, found, merged, output, view_at, value_at, room_at, size_at, ChangesAt, KeepsViews, KeepsValues, FillsIn, HasRoom};
 
 use cilk_monoid::monoid::Monoid;
 use cilk_types::event::Instance;
@@ -21,7 +22,8 @@ use std::mem;
 /// room each view has reserved (`room_at`). A look-up costs one hash. When a call runs out of
 /// memory, no view changes its value.
 pub struct Views<M: Monoid> {
-    views: IndexMap<Instance, M::View>,
+    // None until the first view is put, since most maps never have one.
+    views: Option<Box<IndexMap<Instance, M::View>>>,
 }
 
 // A separate function, so that a proof follows one call where views are dropped.
@@ -33,20 +35,45 @@ impl<M: Monoid> Drop for Views<M> {
 
 impl<M: Monoid> Views<M> {
     /// Returns a map without views.
-    pub fn new(alloc: Global) -> Self
+    pub fn new(_alloc: Global) -> Self
         ensures { (i : Instance) → view_at M.value result i ≡ None }
     {
-        Views {
-            views: IndexMap::new(alloc),
+        Views { views: None }
+    }
+
+    // Takes the memory of the map itself, before its first view.
+    fn make(&mut self, alloc: Global) -> Result<(), AllocError>
+        ensures kept { entries self.new ≡ entries self.old }
+        ensures made { OnOk result (IsSome self.new.views) }
+        ensures succeeds { IsSome self.old.views → IsOk result }
+    {
+        if self.views.is_none() {
+            self.views = Some(Box::new(alloc, IndexMap::new(alloc))?);
+        }
+        Ok(())
+    }
+
+    // The view of the instance.
+    fn find(&self, instance: Instance) -> Option<&M::View>
+        ensures { option_copied result ≡ found self.now instance }
+    {
+        match &self.views {
+            Some(views) => views.get(&instance),
+            None => None,
         }
     }
 
     // Puts a view at the instance.
-    fn put(&mut self, instance: Instance, view: M::View) -> Result<(), AllocError>
+    fn put(&mut self, alloc: Global, instance: Instance, view: M::View) -> Result<(), AllocError>
         ensures ok { OnOk result (ChangesAt M.value self.old self.new instance (Some (M.value view))) }
-        ensures err { OnErr result (KeepsViews M.value self.old self.new) }
+        ensures view { OnOk result ((j : Instance) → found self.new j ≡ cond (same_instance instance j) (Some view) (found self.old j)) }
+        ensures err { OnErr result ((j : Instance) → found self.new j ≡ found self.old j) }
     {
-        self.views.insert(instance, view)?;
+        self.make(alloc)?;
+        let Some(views) = &mut self.views else {
+            unreachable!()
+        };
+        views.insert(instance, view)?;
         Ok(())
     }
 
@@ -55,7 +82,7 @@ impl<M: Monoid> Views<M> {
         ensures ok { OnOk result (ChangesAt M.value self.old self.new instance (Some M.structure.unit)) }
         ensures err { OnErr result (KeepsViews M.value self.old self.new) }
     {
-        self.put(instance, M::unit(alloc))
+        self.put(alloc, instance, M::unit(alloc))
     }
 
     /// Sets the instance's view to that of the single number `x`.
@@ -63,7 +90,7 @@ impl<M: Monoid> Views<M> {
         ensures ok { OnOk result (ChangesAt M.value self.old self.new instance (Some (M.structure.single x))) }
         ensures err { OnErr result (KeepsViews M.value self.old self.new) }
     {
-        self.put(instance, M::single(alloc, x)?)
+        self.put(alloc, instance, M::single(alloc, x)?)
     }
 
     /// Multiplies the instance's view by `x` from the right. An absent view counts as the unit.
@@ -72,12 +99,16 @@ impl<M: Monoid> Views<M> {
             (value_at M.structure M.value self.old instance) (M.structure.single x)))) }
         ensures err { OnErr result (KeepsViews M.value self.old self.new) }
     {
-        if let Some(view) = self.views.get_mut(&instance) {
+        self.make(alloc)?;
+        let Some(views) = &mut self.views else {
+            unreachable!()
+        };
+        if let Some(view) = views.get_mut(&instance) {
             return M::update(alloc, view, x);
         }
         let mut view = M::unit(alloc);
         M::update(alloc, &mut view, x)?;
-        self.put(instance, view)
+        self.put(alloc, instance, view)
     }
 
     /// Returns the number of the instance's view. If there is no view, the unit is put there first.
@@ -87,12 +118,12 @@ impl<M: Monoid> Views<M> {
             (value_at M.structure M.value self.old instance))) }
         ensures err { OnErr result (KeepsViews M.value self.old self.new) }
     {
-        if let Some(view) = self.views.get(&instance) {
+        if let Some(view) = self.find(instance) {
             return Ok(M::number(view));
         }
         let view = M::unit(alloc);
         let number = M::number(&view);
-        self.put(instance, view)?;
+        self.put(alloc, instance, view)?;
         Ok(number)
     }
 
@@ -110,7 +141,10 @@ impl<M: Monoid> Views<M> {
         ensures view { option_map M.value result ≡ view_at M.value self.old instance }
         ensures views { ChangesAt M.value self.old self.new instance None }
     {
-        self.views.swap_remove(&instance)
+        match &mut self.views {
+            Some(views) => views.swap_remove(&instance),
+            None => None,
+        }
     }
 
     // Reserves room at the instance for right sides of at most this size together. Where there is
@@ -123,13 +157,16 @@ impl<M: Monoid> Views<M> {
         ensures succeeds { IsSome (view_at M.value self.old instance) → size ≤ room_at M.reserved self.old instance
             → IsOk result }
     {
-        if let Some(view) = self.views.get_mut(&instance) {
+        self.make(alloc)?;
+        let Some(views) = &mut self.views else {
+            unreachable!()
+        };
+        if let Some(view) = views.get_mut(&instance) {
             return M::room(alloc, view, size);
         }
         let mut view = M::unit(alloc);
         M::room(alloc, &mut view, size)?;
-        self.views.insert(instance, view)?;
-        Ok(())
+        self.put(alloc, instance, view)
     }
 
     // Multiplies the instance's view by a view from the right. There is room for the product.
@@ -141,7 +178,10 @@ impl<M: Monoid> Views<M> {
         ensures room { (j : Instance) → room_at M.reserved self.old j ≤ room_at M.reserved self.new j
             + (if same_instance instance j then M.structure.size (M.value right) else 0) }
     {
-        let slot = self.views.get_mut(&instance).unwrap();
+        let Some(views) = &mut self.views else {
+            unreachable!()
+        };
+        let slot = views.get_mut(&instance).unwrap();
         let left = mem::replace(slot, M::unit(alloc));
         match M::combine(alloc, left, right) {
             Ok(product) => *slot = product,
@@ -154,9 +194,45 @@ impl<M: Monoid> Views<M> {
         ensures value { result ≡ size_at M.structure M.value self.now instance }
         ensures small { result < 2 ^ 63 }
     {
-        match self.views.get(&instance) {
+        match self.find(instance) {
             Some(view) => M::size(view),
             None => 0,
+        }
+    }
+
+    // How many views there are.
+    fn len(&self) -> usize
+        ensures { result ≡ length (entries self.now) }
+    {
+        match &self.views {
+            Some(views) => views.len(),
+            None => 0,
+        }
+    }
+
+    // The view at a place, and its instance.
+    fn entry(&self, place: usize) -> Option<(&Instance, &M::View)>
+        ensures entry { option_map deref_pair result ≡ slice_get (entries self.now) place }
+        ensures value { IfSome result (λ p. found self.now p.0.now ≡ Some p.1.now) }
+        ensures there { place < length (entries self.now) → IsSome result }
+    {
+        match &self.views {
+            Some(views) => views.get_index(place),
+            None => None,
+        }
+    }
+
+    // Takes the last view out, with its instance.
+    fn pop(&mut self) -> Option<(Instance, M::View)>
+        ensures view { IfSome result (λ p. found self.old p.0 ≡ Some p.1) }
+        ensures rest { IfSome result (λ p. (j : Instance) → found self.new j ≡ cond (same_instance p.0 j) None (found self.old j)) }
+        ensures fewer { IsSome result → length (entries self.new) < length (entries self.old) }
+        ensures none { IfNone result (entries self.old ≡ []) }
+        ensures kept { IfNone result (entries self.new ≡ []) }
+    {
+        match &mut self.views {
+            Some(views) => views.pop(),
+            None => None,
         }
     }
 
@@ -168,8 +244,8 @@ impl<M: Monoid> Views<M> {
         ensures succeeds { ((j : Instance) → IsSome (view_at M.value later.now j)
             → IsSome (view_at M.value self.old j)) → IsOk result }
     {
-        for i in 0..later.views.len() {
-            let (instance, _) = later.views.get_index(i).unwrap();
+        for i in 0..later.len() {
+            let (instance, _) = later.entry(i).unwrap();
             self.reserve(alloc, *instance, 0)?;
         }
         Ok(())
@@ -187,8 +263,8 @@ impl<M: Monoid> Views<M> {
             → IsSome (view_at M.value self.old j) × (size_at M.structure M.value middle.now j
             + size_at M.structure M.value right.now j ≤ room_at M.reserved self.old j)) → IsOk result }
     {
-        for i in 0..middle.views.len() {
-            let (instance, view) = middle.views.get_index(i).unwrap();
+        for i in 0..middle.len() {
+            let (instance, view) = middle.entry(i).unwrap();
             let size = M::size(view) + right.size_of(*instance);
             self.reserve(alloc, *instance, size)?;
         }
@@ -204,7 +280,7 @@ impl<M: Monoid> Views<M> {
         ensures room { (j : Instance) → room_at M.reserved self.old j ≤ room_at M.reserved self.new j
             + size_at M.structure M.value right j }
     {
-        while let Some((instance, view)) = right.views.pop() {
+        while let Some((instance, view)) = right.pop() {
             self.multiply(alloc, instance, view);
         }
     }

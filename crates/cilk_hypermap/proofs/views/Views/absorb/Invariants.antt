@@ -1,7 +1,6 @@
-use Rattle.std.proofs.Common.{◌≡◌, ◌+◌, ◌≤◌, IsSome}
-use Rattle.indexmap.specs.IndexMap.{index_map_len}
+use Rattle.std.proofs.Common.{◌≡◌, ◌+◌, ◌≤◌, IsSome, length}
 use Rattle.cilk_types.specs.declared.event.Instance.{Instance}
-use Rattle.cilk_hypermap.specs.Views.{merged, view_at, room_at, size_at}
+use Rattle.cilk_hypermap.specs.Views.{entries, merged, view_at, room_at, size_at}
 use Rattle.cilk_hypermap.proofs.views.Views.absorb.Given as goal
 
 -- the views that remain on the right have their room, and the products with them equal those of the
@@ -17,4 +16,4 @@ invariant-loop-instance g l =
     }
 
 abbrev pub decreases-loop-instance : goal.decreases-loop-instance
-decreases-loop-instance g l = index_map_len l.right.views
+decreases-loop-instance g l = length (entries l.right)

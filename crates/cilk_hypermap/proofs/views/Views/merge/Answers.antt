@@ -1,7 +1,5 @@
 use Rattle.std.proofs.Common.{ap, ◌∙◌}
-use Rattle.indexmap.specs.IndexMap.{get}
-use Rattle.cilk_monoid.specs.Ranges.{same_instance}
-use Rattle.cilk_hypermap.specs.Views.{or_unit, view_at}
+use Rattle.cilk_hypermap.specs.Views.{found, or_unit, view_at}
 use Rattle.cilk_hypermap.proofs.Fills.{keeps_value, merged_two, or_unit-merged, members_by_type}
 use Rattle.cilk_hypermap.proofs.views.Views.merge.Goals as goal
 
@@ -11,7 +9,7 @@ returns-in-Ok-clause-views g c j =
     let laws = g.met.M.Monoid in
     let l = view_at m.value c.args.left j in
     let r = view_at m.value c.args.right j in
-    let member = members_by_type m.IsMember m.structure laws.lawful m.value laws.members (get same_instance c.args.right.views j) in
+    let member = members_by_type m.IsMember m.structure laws.lawful m.value laws.members (found c.args.right j) in
     c.absorb.ensures.views j
     ∙ merged_two m.structure m.IsMember laws.lawful l (view_at m.value c.room.new.left j) r (view_at m.value c.room.new.middle j) (view_at m.value c.new-none.result j) member (c.new-none.ensures j) (c.room.ensures.left j) (c.room.ensures.middle j)
 
@@ -19,8 +17,8 @@ pub returns-in-Ok-clause-values : goal.returns-in-Ok-clause-values
 returns-in-Ok-clause-values g c j =
     let m = g.M.Monoid in
     let laws = g.met.M.Monoid in
-    let left = members_by_type m.IsMember m.structure laws.lawful m.value laws.members (get same_instance c.args.left.views j) in
-    let right = members_by_type m.IsMember m.structure laws.lawful m.value laws.members (get same_instance c.args.right.views j) in
+    let left = members_by_type m.IsMember m.structure laws.lawful m.value laws.members (found c.args.left j) in
+    let right = members_by_type m.IsMember m.structure laws.lawful m.value laws.members (found c.args.right j) in
     ap (or_unit m.structure) (returns-in-Ok-clause-views g c j) ∙ or_unit-merged m.structure m.IsMember laws.lawful (view_at m.value c.args.left j) (view_at m.value c.args.right j) left right
 
 pub returns-clause-err : goal.returns-clause-err

@@ -1,7 +1,5 @@
 use Rattle.std.proofs.Common.{ap, ◌∙◌, refl}
-use Rattle.indexmap.specs.IndexMap.{get}
-use Rattle.cilk_monoid.specs.Ranges.{same_instance}
-use Rattle.cilk_hypermap.specs.Views.{merged, or_unit, view_at}
+use Rattle.cilk_hypermap.specs.Views.{found, merged, or_unit, view_at}
 use Rattle.cilk_hypermap.proofs.Fills.{keeps_value, merged_room, merged_member, or_unit-merged, members_by_type}
 use Rattle.cilk_hypermap.proofs.views.Views.merge3.Goals as goal
 
@@ -11,9 +9,9 @@ returns-in-Ok-clause-views g c j =
     let laws = g.met.M.Monoid in
     let S = m.structure in
     let r = view_at m.value c.args.right j in
-    let left = members_by_type m.IsMember S laws.lawful m.value laws.members (get same_instance c.args.left.views j) in
-    let middle = members_by_type m.IsMember S laws.lawful m.value laws.members (get same_instance c.args.middle.views j) in
-    let right = members_by_type m.IsMember S laws.lawful m.value laws.members (get same_instance c.args.right.views j) in
+    let left = members_by_type m.IsMember S laws.lawful m.value laws.members (found c.args.left j) in
+    let middle = members_by_type m.IsMember S laws.lawful m.value laws.members (found c.args.middle j) in
+    let right = members_by_type m.IsMember S laws.lawful m.value laws.members (found c.args.right j) in
     c.absorb-in-Ok.ensures.views j ∙ ap (λ x. merged S x r) (c.absorb.ensures.views j)
     ∙ merged_room S m.IsMember laws.lawful (view_at m.value c.args.left j) (view_at m.value c.room.new.left j) (view_at m.value c.args.middle j) (view_at m.value c.room.new.middle j) r left middle right (c.room.ensures.left j) (c.room.ensures.middle j)
 
@@ -25,9 +23,9 @@ returns-in-Ok-clause-values g c j =
     let l = view_at m.value c.args.left j in
     let n = view_at m.value c.args.middle j in
     let r = view_at m.value c.args.right j in
-    let left = members_by_type m.IsMember S laws.lawful m.value laws.members (get same_instance c.args.left.views j) in
-    let middle = members_by_type m.IsMember S laws.lawful m.value laws.members (get same_instance c.args.middle.views j) in
-    let right = members_by_type m.IsMember S laws.lawful m.value laws.members (get same_instance c.args.right.views j) in
+    let left = members_by_type m.IsMember S laws.lawful m.value laws.members (found c.args.left j) in
+    let middle = members_by_type m.IsMember S laws.lawful m.value laws.members (found c.args.middle j) in
+    let right = members_by_type m.IsMember S laws.lawful m.value laws.members (found c.args.right j) in
     ap (or_unit S) (returns-in-Ok-clause-views g c j)
     ∙ or_unit-merged S m.IsMember laws.lawful (merged S l n) r (merged_member S m.IsMember laws.lawful l n left middle) right
     ∙ ap (λ x. S.combine x (or_unit S r)) (or_unit-merged S m.IsMember laws.lawful l n left middle)
