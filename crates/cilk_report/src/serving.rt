@@ -242,7 +242,7 @@ fn advised(alloc: Global, words: &[&str], is_why: bool, usage: &str) -> Result<S
 
 // The error of `--why` among words that aren't one program and a line of it.
 const WHY_USAGE: &str =
-    "error: `--why` of `settle` takes one program and the number of a line in it: `cilk settle prog.c --why 12`\n\
+    "error: `--why` of `settle` takes one program and the number of a line in it, without `--every`: `cilk settle prog.c --why 12`\n\
     hint: `cilk help settle` describes `settle` and its options\n";
 
 /// Serves a command line as `serve` does, then adds what else is requested.
