@@ -30,6 +30,20 @@ withdraw_at-requires-clause-stands c = λ u at.
     let same : g.0 ≡ u = same_at c.args.scheduler.now.workers.items c.in-Some.found.victim g.0 u g.2 at in
     subst (λ (u : Worker). let o = u.offered in c.in-Some.found.index < length o.items) same (let u = g.0 in let o = u.offered in inside o.items c.in-Some.found.index g.1 g.3)
 
+pub clear-requires : goal.clear-requires
+clear-requires c =
+    let there = is_there c.args.scheduler.now.workers.items c.args.worker c.in-Some.ensures.can.idle in
+    let some = there.0 in
+    let within = there.1 in
+    omega (arith, some, within, c.withdraw_at.ensures.count)
+
+pub hold-requires-clause-works : goal.hold-requires-clause-works
+hold-requires-clause-works c =
+    let there = is_there c.args.scheduler.now.workers.items c.args.worker c.in-Some.ensures.can.idle in
+    let some = there.0 in
+    let within = there.1 in
+    omega (arith, some, within, c.withdraw_at.ensures.count, c.clear.ensures.count)
+
 pub hold-requires-clause-here : goal.hold-requires-clause-here
 hold-requires-clause-here c =
     let can = c.in-Some.ensures.can in
