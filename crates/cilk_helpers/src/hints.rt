@@ -84,7 +84,7 @@ fn read_all<S: Source>(reading: &mut Reading, source: &mut S) -> Result<(), Pull
 /// Reads the hints about frames from a source.
 ///
 /// Of each line only so much is read as the hints need. Reading stops at the first line that doesn't
-/// fit those before it, as one more event than a run may have. Cost: linear in the text; memory:
+/// fit those before it, as one more event than [`crate::listing::MOST_EVENTS`]. Cost: linear in the text; memory:
 /// linear in the frames and in the values that are read.
 pub fn hints<S: Source>(alloc: Global, source: &mut S) -> Result<Hints, PullFault>
     requires { S.failed source.old < 18446744073709551615 }

@@ -11,7 +11,8 @@
 //!    replays stop once they cost more ticks than a run may.
 //! 3. One thread retells the serial run from the replays and compares each value that a frame read
 //!    with the store ([`whole::retell`]). If one differs, or a replay is missing, the run is made
-//!    without helpers.
+//!    without helpers. So is a run with more events than [`listing::MOST_EVENTS`], of which nothing
+//!    is replayed.
 //! 4. The rest is the check of `cilk_checker`, with this run and the text.
 //!
 //! | Call | Result |
@@ -31,7 +32,7 @@
 //! ```
 //!
 //! One thread retells all events, so helpers gain where frames compute long between events. An event
-//! costs 48 bytes besides the memory of a check. Related: BugNet, which trusts its log of loaded
+//! that is replayed costs 48 bytes besides the memory of a check. Related: BugNet, which trusts its log of loaded
 //! values (Narayanasamy, Pokam and Calder 2005), and NOrec, which validates transactions by the
 //! values that they read (Dalessandro, Spear and Scott 2010).
 #![tactic(auto)]

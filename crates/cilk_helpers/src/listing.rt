@@ -6,8 +6,14 @@ ghost use Rattle.cilk_helpers.specs.Listed.{AreFew, events_in};
 
 use crate::scan::LineHint;
 use cilk_types::event::FrameNo;
-use cilk_types::limits::{MAX_EVENTS, MAX_FRAMES};
+use cilk_types::limits::MAX_FRAMES;
 use std::alloc::{AllocError, Global};
+
+/// The most events whose lines are read for hints.
+///
+/// A run with more is made without helpers. Between two of its events it takes some 100 ticks or less,
+/// so replays would cost more than they spare, and their notes some 48 MB.
+pub const MOST_EVENTS: u32 = 150_000;
 
 /// The hint about a frame.
 #[derive(Clone, Copy)]
@@ -36,11 +42,13 @@ impl FrameHint {
 /// The hints about all frames of a run.
 ///
 /// `words` has the values that frames read, those of each frame together. The hint of a frame is at
-/// its number less 1. 28 bytes a frame, and 8 a word.
+/// its number less 1. `events` counts the events that are listed, up to [`MOST_EVENTS`]. 28 bytes a
+/// frame, and 8 a word.
 #[derive(Drop)]
 pub struct Hints {
     pub words: Vec<i64>,
     pub frames: Vec<FrameHint>,
+    pub events: u32,
 }
 
 /// Returns the index of a frame in a list of all frames, which count from 1. No list has the index
@@ -65,8 +73,8 @@ struct Open {
     last: Option<FrameNo>,
 }
 
-/// The hints so far, of at most as many events as a run may have. The innermost open frame is the
-/// last one of `open`.
+/// The hints so far, of at most [`MOST_EVENTS`] events. The innermost open frame is the last one of
+/// `open`.
 #[derive(Drop)]
 pub struct Listing {
     told: Vec<Told>,
@@ -154,14 +162,14 @@ impl Listing {
     }
 
     // Counts one more event and `words` more words of the innermost open frame. False if none is
-    // open, or if a run can't have one more.
+    // open, or if there are as many as are read.
     fn count(&mut self, words: u32) -> bool
         ensures { IsTrue result → vec_len self.new.told < self.new.events }
     {
         let Some(open) = self.open.last() else {
             return false;
         };
-        if self.events >= MAX_EVENTS {
+        if self.events >= MOST_EVENTS {
             return false;
         }
         self.events += 1;
@@ -180,6 +188,7 @@ impl Listing {
         let Listing {
             told,
             mut frames,
+            events,
             ..
         } = self;
         let mut first: u32 = 0;
@@ -198,6 +207,10 @@ impl Listing {
                 hint.words = hint.words.saturating_add(1);
             }
         }
-        Ok(Hints { words, frames })
+        Ok(Hints {
+            words,
+            frames,
+            events,
+        })
     }
 }

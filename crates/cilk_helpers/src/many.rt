@@ -10,7 +10,7 @@ ghost use Rattle.cilk_checker.specs.Texts.{AreTexts, IsTrueAnswer, IsTrueRefusal
 
 use crate::depths::{Team, replays};
 use crate::hints::hints;
-use crate::listing::Hints;
+use crate::listing::{Hints, MOST_EVENTS};
 use crate::watch::Watch;
 use crate::whole::retell;
 use cilk_checker::accepted::Accepted;
@@ -29,7 +29,8 @@ use std::thread::Threads;
 /// Makes the serial run of a program with helpers, and returns how the run ends, with its events.
 ///
 /// Each helper replays some of the listed frames, in a thread of its own. The result is the serial
-/// run whatever the hints say: if they are wrong, the run is made without them.
+/// run whatever the hints say: if they are wrong, or list [`MOST_EVENTS`] events, it is made without
+/// them.
 pub fn run_many<H: Threads + Sync, W: Watch + Sync>(
     rt: &H,
     alloc: Global,
@@ -44,6 +45,10 @@ pub fn run_many<H: Threads + Sync, W: Watch + Sync>(
     ensures { IfOk result (λ r. EndsWith (source_of program.now) input.now r.0 r.1) }
 {
     let code = lower(alloc, program)?;
+    if hints.events >= MOST_EVENTS {
+        drop(hints);
+        return run_code(alloc, program, code, input);
+    }
     let team = Team { rt, helpers, watch };
     let replays = replays(team, alloc, program, &code, input, &hints)?;
     drop(hints);
