@@ -96,27 +96,29 @@ pub fn ended<S: Source>(
     ensures kept { S.kept source.new ≡ S.kept source.old }
 {
     let tally = heard(alloc, right, source)?;
-    if let Some(refusal) = first_found(alloc, &tally, right, outcome)? {
+    if let Some(refusal) = first_found(alloc, tally, right, outcome)? {
         return Err(Unaccepted::Refusal(refusal));
     }
     Ok(())
 }
 
-// The first failing check for a run that has ended: a difference, a race, or a view-read race.
+// The first failing check for a run that has ended: a difference, a race, or a view-read race. The tally is
+// freed before races are looked for, which takes as much memory.
 fn first_found(
     alloc: Global,
-    tally: &Tally,
+    tally: Tally,
     right: &Right,
     outcome: &Outcome,
 ) -> Result<Option<Refusal>, AllocError>
     ensures { IfOk result (λ found. (s : Shape) (c : Contents) → HasColumns s right.now → HasCreations right.now.trace
-        → Tallied right.now c tally.now
+        → Tallied right.now c tally
         → MatchOption found (IsClean s right.now.trace outcome.now.result c)
         (λ r. IsFound s right.now.trace outcome.now.result c r)) }
 {
-    if let Some(refusal) = first_difference(tally, right, outcome) {
+    if let Some(refusal) = first_difference(&tally, right, outcome) {
         return Ok(Some(refusal));
     }
+    drop(tally);
     first_race_of(alloc, right)
 }
 

@@ -17,15 +17,13 @@ ghost use Rattle.cilk_tree.specs.Races.{HasNoRace, IsFirstRace};
 ghost use Rattle.cilk_peers.specs.ViewRaces.{HasNoViewRace, IsFirstViewRace};
 ghost use Rattle.cilk_checker.specs.Settled.{IsFirstOf, IsVerdict};
 
+use crate::passes::labelled;
 use cilk_cells::race::first_race;
 use cilk_cells::view_race::first_view_read;
 use cilk_determinacy::words::{inputs_are_words, programs_are_of_words};
-use cilk_labels::label;
-use cilk_peers::walk::classes;
 use cilk_program::program::Program;
 use cilk_serial::fault::RunFault;
 use cilk_serial::run::run;
-use cilk_tree::building::tree_of;
 use cilk_types::event::Pos;
 use cilk_types::input::Input;
 use cilk_types::outcome::Outcome;
@@ -72,10 +70,9 @@ pub fn settle(alloc: Global, program: &Program, input: &Input) -> Result<Verdict
 pub(crate) fn race_of(alloc: Global, trace: &Trace) -> Result<Option<FirstRace>, AllocError>
     ensures { IfOk result (λ found. (s : Shape) → Spells s trace.now → IsFirstOf (tree s) trace.now found) }
 {
-    let tree = tree_of(alloc, trace)?;
-    let labels = label(alloc, &tree)?;
+    let (labels, classes) = labelled(alloc, trace)?;
     let accesses = first_race(alloc, trace, &labels)?;
-    let classes = classes(alloc, &tree)?;
+    drop(labels);
     let reads = first_view_read(alloc, trace, &classes)?;
     Ok(first_of(accesses, reads))
 }
