@@ -65,6 +65,11 @@ pub enum Halt {
     Stopped(Fault),
 }
 
+// The events for which there is room from the beginning: more than a run may have, and so many that the
+// system maps this memory alone, page by page as it is written, and takes it back as it is freed. A list
+// that grew would leave holes of its size behind.
+const ROOM: usize = 1_400_000;
+
 impl Running {
     /// Returns the run before the root's frame begins.
     pub fn new(alloc: Global, program: &Program, code: &Code) -> Result<Running, AllocError>
@@ -76,7 +81,7 @@ impl Running {
             cells: Vec::from_slice(alloc, program.globals.as_slice())?,
             views: Hypermap::new(alloc),
             output: Vec::new(alloc),
-            events: Vec::new(alloc),
+            events: Vec::with_capacity(alloc, ROOM)?,
             frames: 1,
         };
         state.extend(function_cells(program, program.main))?;
