@@ -18,14 +18,14 @@ const SHOWN: usize = 10;
 const TRIES: usize = 10_000_000;
 
 /// An access of a cell from a byte of the text, and the place of the cell's next one, from 1; 0 for
-/// none.
+/// none. Of a run there may be as many as events, so it has 20 bytes.
 #[derive(Clone, Copy)]
 struct Access {
-    at: usize,
+    at: u32,
     writes: bool,
     hebrew: u32,
-    index: usize,
-    next: usize,
+    index: u32,
+    next: u32,
 }
 
 /// Two bytes of the text, in order, and an event from each: they race.
@@ -34,7 +34,7 @@ type Found = ((usize, usize), (usize, usize));
 /// The accesses so far, linked by their cells, and the races. The first race isn't shown.
 struct Search<'a> {
     scene: Scene<'a>,
-    heads: Vec<usize>,
+    heads: Vec<u32>,
     accesses: Vec<Access>,
     found: Vec<Found>,
     tries: usize,
@@ -111,10 +111,10 @@ impl Search<'_> {
             }
             if let Some((cell, writes)) = self.scene.access(index) {
                 let here = Access {
-                    at: self.scene.byte_of(index),
+                    at: small(self.scene.byte_of(index)),
                     writes,
                     hebrew: labels.hebrew(strand),
-                    index,
+                    index: small(index),
                     next: 0,
                 };
                 self.meet(cell, here)?;
@@ -136,7 +136,7 @@ impl Search<'_> {
                 break;
             };
             if other.hebrew > here.hebrew && (other.writes || here.writes) {
-                self.note(other.index, here.index)?;
+                self.note(other.index as usize, here.index as usize)?;
             }
             if other.at == here.at && other.writes == here.writes {
                 is_kept = true;
@@ -150,17 +150,17 @@ impl Search<'_> {
         }
         self.accesses.push(Access { next: head, ..here })?;
         if let Some(head) = self.heads.get_mut(cell) {
-            *head = self.accesses.len();
+            *head = small(self.accesses.len());
         }
         Ok(())
     }
 
-    fn access(&self, place: usize) -> Option<Access> {
-        self.accesses.get(place.checked_sub(1)?).copied()
+    fn access(&self, place: u32) -> Option<Access> {
+        self.accesses.get((place as usize).checked_sub(1)?).copied()
     }
 
-    fn improve(&mut self, place: usize, here: Access) {
-        if let Some(kept) = self.accesses.get_mut(place.saturating_sub(1))
+    fn improve(&mut self, place: u32, here: Access) {
+        if let Some(kept) = self.accesses.get_mut((place as usize).saturating_sub(1))
             && kept.hebrew < here.hebrew
         {
             kept.hebrew = here.hebrew;
@@ -220,6 +220,11 @@ impl Search<'_> {
         let words = words.with(done_by(&one)).with(done_by(&other));
         scene.push(report, &words.with(scene.place(second)))
     }
+}
+
+// A place or a byte in 32 bits, which count them all.
+fn small(number: usize) -> u32 {
+    u32::try_from(number).unwrap_or(u32::MAX)
 }
 
 fn done_by(event: &Event) -> Part<'static> {

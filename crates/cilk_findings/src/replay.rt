@@ -14,6 +14,7 @@ use cilk_types::event::Event;
 use cilk_types::fault::Fault;
 use cilk_types::input::Input;
 use cilk_types::invocation::Invocation;
+use cilk_types::limits::MAX_EVENTS;
 use cilk_types::outcome::Outcome;
 use cilk_types::trace::Trace;
 use std::alloc::{AllocError, Global};
@@ -57,6 +58,53 @@ pub struct StepNote {
     pub at: usize,
 }
 
+// A step in 8 bytes: a run has fewer frames, and a text fewer bytes, than 32 bits count.
+#[derive(Clone, Copy)]
+struct SmallStep {
+    frame: u32,
+    at: u32,
+}
+
+/// The steps of a run's events, in order.
+#[derive(Drop)]
+pub struct Steps {
+    steps: Vec<SmallStep>,
+}
+
+impl Steps {
+    // Returns an empty list with room for the longest run, so that it never moves as it grows. Memory that
+    // isn't written to isn't taken from the system.
+    fn new(alloc: Global) -> Result<Steps, AllocError> {
+        Ok(Steps {
+            steps: Vec::with_capacity(alloc, MAX_EVENTS as usize)?,
+        })
+    }
+
+    fn push(&mut self, step: StepNote) -> Result<(), AllocError> {
+        self.steps.push(SmallStep {
+            frame: u32::try_from(step.frame).unwrap_or(u32::MAX),
+            at: u32::try_from(step.at).unwrap_or(u32::MAX),
+        })?;
+        Ok(())
+    }
+
+    /// Returns the step of an event, counted from 0, if there is that event.
+    pub fn get(&self, index: usize) -> Option<StepNote> {
+        match self.steps.get(index) {
+            Some(step) => Some(StepNote {
+                frame: step.frame as usize,
+                at: step.at as usize,
+            }),
+            None => None,
+        }
+    }
+
+    /// Returns the number of events.
+    pub fn len(&self) -> usize {
+        self.steps.len()
+    }
+}
+
 /// The fault that stops a run, its step, and the last two operands there.
 #[derive(Clone, Copy)]
 pub struct StopNote {
@@ -70,7 +118,7 @@ pub struct StopNote {
 /// doesn't end.
 pub struct Replay {
     pub frames: Vec<FrameNote>,
-    pub steps: Vec<StepNote>,
+    pub steps: Steps,
     pub ticks: u32,
     pub stop: Option<StopNote>,
 }
@@ -135,7 +183,7 @@ impl<'a> Notes<'a> {
             map,
             replay: Replay {
                 frames: Vec::new(alloc),
-                steps: Vec::new(alloc),
+                steps: Steps::new(alloc)?,
                 ticks: 0,
                 stop: None,
             },

@@ -48,6 +48,28 @@ impl Run {
         })
     }
 
+    /// Returns the code and the outcome, and frees the events and the notes.
+    pub fn without_events(self) -> (Code, Option<Outcome>) {
+        let Run {
+            code,
+            trace: _trace,
+            outcome,
+            replay: _replay,
+        } = self;
+        (code, outcome)
+    }
+
+    /// Returns the code, the events and the notes, and frees the outcome.
+    pub fn without_outcome(self) -> (Code, Trace, Replay) {
+        let Run {
+            code,
+            trace,
+            outcome: _outcome,
+            replay,
+        } = self;
+        (code, trace, replay)
+    }
+
     /// Returns whether an event, counted from 0, is a child's result: a write that the end of its
     /// frame follows.
     pub fn gives_result(&self, index: usize) -> bool {

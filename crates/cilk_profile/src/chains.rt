@@ -24,10 +24,11 @@ pub struct Depth {
 }
 
 /// The chains of a run: for each event its step, which is the length of the longest chain before it,
-/// and the event before it on such a chain, if there is one. In the end `depth` has a longest chain.
+/// and the event before it on such a chain, if there is one. In the end `depth` has a longest chain. A run
+/// has fewer events than 32 bits count.
 pub struct Chains {
-    pub steps: Vec<usize>,
-    pub before: Vec<usize>,
+    pub steps: Vec<u32>,
+    pub before: Vec<u32>,
     waiting: Vec<Depth>,
     pub depth: Depth,
 }
@@ -51,7 +52,7 @@ pub fn profile(alloc: Global, trace: &Trace) -> Result<Vec<u32>, AllocError> {
     let mut counts: Vec<u32> = Vec::new(alloc);
     counts.resize(chains.depth.own.length, 0)?;
     for step in &chains.steps {
-        if let Some(events) = counts.get_mut(*step) {
+        if let Some(events) = counts.get_mut(*step as usize) {
             *events = events.saturating_add(1);
         }
     }
@@ -62,8 +63,8 @@ impl Chains {
     /// Finds the chains of a run's events. Cost and memory: linear in the events.
     pub fn of(alloc: Global, trace: &Trace) -> Result<Chains, AllocError> {
         let mut chains = Chains {
-            steps: Vec::new(alloc),
-            before: Vec::new(alloc),
+            steps: Vec::with_capacity(alloc, trace.len())?,
+            before: Vec::with_capacity(alloc, trace.len())?,
             waiting: Vec::new(alloc),
             depth: Depth {
                 own: NO_CHAIN,
@@ -93,8 +94,8 @@ impl Chains {
             length: ahead.length.saturating_add(1),
             last: self.before.len(),
         };
-        self.steps.push(ahead.length)?;
-        self.before.push(ahead.last)?;
+        self.steps.push(small(ahead.length))?;
+        self.before.push(small(ahead.last))?;
         self.depth = Depth {
             own,
             spawned,
@@ -120,6 +121,11 @@ impl Chains {
         }
         Ok(())
     }
+}
+
+// A number of events in 32 bits.
+fn small(number: usize) -> u32 {
+    u32::try_from(number).unwrap_or(u32::MAX)
 }
 
 // The longer chain, or the first.

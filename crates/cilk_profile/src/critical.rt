@@ -48,7 +48,7 @@ struct Critical<'a> {
     length: u64,
     chains: Chains,
     // For each event, and the end, the number of events of the path that come before it.
-    ahead: Vec<u64>,
+    ahead: Vec<u32>,
     // For each byte of the text, the events of the path there.
     counts: Vec<u64>,
     // By the byte of the text.
@@ -124,9 +124,9 @@ impl Critical<'_> {
             if let Some(mark) = self.ahead.get_mut(event.saturating_add(1)) {
                 *mark = 1;
             }
-            event = self.chains.before.get(event).copied().unwrap_or(0);
+            event = self.chains.before.get(event).copied().unwrap_or(0) as usize;
         }
-        let mut sum: u64 = 0;
+        let mut sum: u32 = 0;
         for place in 0..self.ahead.len() {
             if let Some(count) = self.ahead.get_mut(place) {
                 sum = sum.saturating_add(*count);
@@ -161,14 +161,19 @@ impl Critical<'_> {
                 site.share.add(note, self.chains.steps.as_slice());
                 let upto = site.share.upto;
                 if upto > counted {
-                    let ahead = count_at(self.ahead.as_slice(), note.begun.saturating_add(1));
-                    let inside = count_at(self.ahead.as_slice(), upto).saturating_sub(ahead);
-                    site.on_path = site.on_path.saturating_add(inside);
+                    let ahead = self.ahead_of(note.begun.saturating_add(1));
+                    let inside = self.ahead_of(upto).saturating_sub(ahead);
+                    site.on_path = site.on_path.saturating_add(u64::from(inside));
                 }
                 *place = Some(site);
             }
         }
         Ok(())
+    }
+
+    // The number of events of the path before an event.
+    fn ahead_of(&self, event: usize) -> u32 {
+        self.ahead.get(event).copied().unwrap_or(0)
     }
 
     // Adds a line for each place, in the order of the text, if there is one.

@@ -6,6 +6,7 @@
 //! same events. A frame that departs, as a race lets it, is shown by the number of its events.
 
 use crate::rows::{push_range, push_runner, push_runners};
+use cilk_findings::replay::Replay;
 use cilk_findings::scene::Scene;
 use cilk_messages::sentence::say;
 use cilk_schedule::{Choice, Told};
@@ -59,6 +60,7 @@ const IDLE: Hand = Hand {
 #[derive(Clone, Copy)]
 struct Stretch {
     strand: u32,
+    end: u32,
     count: usize,
     first: usize,
     last: usize,
@@ -93,11 +95,20 @@ enum Deed {
     Ends(Option<usize>),
 }
 
-/// What each worker did so far.
+/// An event of the serial run: its form, and its strand.
+#[derive(Clone, Copy)]
+struct Twin {
+    form: u32,
+    strand: u32,
+}
+
+/// What each worker did so far. Of the serial run it has the frames and places, and of each event only
+/// what tells whether another one is alike.
 pub struct Deeds<'a> {
-    scene: Scene<'a>,
-    // The strand of each event of the serial run.
-    strands: Vec<u32>,
+    replay: &'a Replay,
+    // How many cells globals have.
+    globals: usize,
+    twins: Vec<Twin>,
     seats: Vec<Seat>,
     // By worker; each worker's oldest first.
     offers: Vec<Offer>,
@@ -111,8 +122,9 @@ pub struct Deeds<'a> {
 impl Drop for Deeds<'_> {
     fn drop(self) {
         let Deeds {
-            scene: _scene,
-            strands: _strands,
+            replay: _replay,
+            globals: _globals,
+            twins: _twins,
             seats: _seats,
             offers: _offers,
             hands: _hands,
@@ -123,17 +135,34 @@ impl Drop for Deeds<'_> {
 }
 
 impl<'a> Deeds<'a> {
-    /// Deeds of no workers yet.
-    pub fn new(alloc: Global, scene: Scene<'a>) -> Deeds<'a> {
-        Deeds {
-            scene,
-            strands: Vec::new(alloc),
+    /// Deeds of no workers yet. The events are those of the serial run with these frames and places.
+    pub fn new(
+        alloc: Global,
+        globals: usize,
+        events: &[Event],
+        replay: &'a Replay,
+    ) -> Result<Deeds<'a>, AllocError> {
+        let mut twins = Vec::with_capacity(alloc, events.len())?;
+        let mut strand: u32 = 0;
+        for event in events {
+            if let Event::Begin { .. } | Event::Resume { .. } | Event::Sync = event {
+                strand = strand.saturating_add(1);
+            }
+            twins.push(Twin {
+                form: form_of(event, globals),
+                strand,
+            })?;
+        }
+        Ok(Deeds {
+            replay,
+            globals,
+            twins,
             seats: Vec::new(alloc),
             offers: Vec::new(alloc),
             hands: Vec::new(alloc),
             deeds: Vec::new(alloc),
             count: 0,
-        }
+        })
     }
 
     /// Begins with the first frame, which the first of the workers holds.
@@ -145,13 +174,6 @@ impl<'a> Deeds<'a> {
             twin: Some(0),
             next: 0,
         })?;
-        let mut strand: u32 = 0;
-        for event in self.scene.run.trace.as_slice() {
-            if let Event::Begin { .. } | Event::Resume { .. } | Event::Sync = event {
-                strand = strand.saturating_add(1);
-            }
-            self.strands.push(strand)?;
-        }
         Ok(())
     }
 
@@ -183,10 +205,9 @@ impl<'a> Deeds<'a> {
 
     // Makes an event of a frame. It is the one of the serial run if the frame is still like its twin.
     fn make(&mut self, worker: usize, frame: usize, event: &Event) -> Result<(), AllocError> {
-        let globals = self.scene.case.program.globals.len();
         let next = self.next_of(frame);
-        let made = match self.scene.run.event(next) {
-            Some(serial) if form_of(&serial, globals) == form_of(event, globals) => next,
+        let made = match self.twins.get(next) {
+            Some(twin) if twin.form == form_of(event, self.globals) => next,
             _ => NOWHERE,
         };
         self.work(worker, frame, made)?;
@@ -206,7 +227,7 @@ impl<'a> Deeds<'a> {
     // does, and with another strand if another deed came meanwhile.
     fn work(&mut self, worker: usize, frame: usize, made: usize) -> Result<(), AllocError> {
         let at = self.byte_of(made).unwrap_or(0);
-        let strand = self.strands.get(made).copied().unwrap_or(0);
+        let strand = self.strand_of(made);
         let hand = self.hands.get(worker).copied().unwrap_or(IDLE);
         let is_latest = hand.deed.saturating_add(1) == self.count;
         let goes_on = match hand.strand {
@@ -217,6 +238,7 @@ impl<'a> Deeds<'a> {
         if !goes_on {
             let stretch = Stretch {
                 strand,
+                end: strand,
                 count: 1,
                 first: made,
                 last: made,
@@ -230,6 +252,7 @@ impl<'a> Deeds<'a> {
                 hand.deed,
                 Deed::Makes(Stretch {
                     strand: stretch.strand,
+                    end: strand,
                     count: stretch.count.saturating_add(1),
                     first: stretch.first,
                     last: made,
@@ -256,12 +279,12 @@ impl<'a> Deeds<'a> {
         is_spawned: bool,
     ) -> Result<usize, AllocError> {
         let next = made.saturating_add(1);
-        let twin = self.scene.frame_of(next);
-        let (ended, at) = match twin {
-            Some(twin) => {
-                let note = self.scene.note(twin);
-                (note.ended.unwrap_or(NOWHERE), Some(note.invoked_at))
-            }
+        let twin = match self.replay.steps.get(next) {
+            Some(step) => Some(step.frame),
+            None => None,
+        };
+        let (ended, at) = match self.replay.frames.get(twin.unwrap_or(NOWHERE)) {
+            Some(note) => (note.ended.unwrap_or(NOWHERE), Some(note.invoked_at)),
             None => (NOWHERE, None),
         };
         let child = self.seats.len();
@@ -361,27 +384,69 @@ impl<'a> Deeds<'a> {
 
     // The byte of an event of the serial run.
     fn byte_of(&self, made: usize) -> Option<usize> {
-        match self.scene.run.replay.steps.get(made) {
+        match self.replay.steps.get(made) {
             Some(step) => Some(step.at),
             None => None,
         }
     }
 
+    // The strand of an event of the serial run, 0 for none.
+    fn strand_of(&self, made: usize) -> u32 {
+        match self.twins.get(made) {
+            Some(twin) => twin.strand,
+            None => 0,
+        }
+    }
+
+    /// Returns what is to be told, without the serial run.
+    pub fn into_record(self) -> Record {
+        let Deeds {
+            replay: _,
+            globals: _,
+            twins: _twins,
+            seats: _seats,
+            offers: _offers,
+            hands,
+            deeds,
+            count,
+        } = self;
+        Record {
+            hands,
+            deeds,
+            count,
+        }
+    }
+}
+
+/// What is to be told of deeds: the first of them, each worker's last one, and how many there are.
+#[derive(Drop)]
+pub struct Record {
+    hands: Vec<Hand>,
+    deeds: Vec<(usize, Deed)>,
+    count: usize,
+}
+
+impl Record {
     /// Adds a line for each deed.
-    pub fn push(&self, report: &mut String) -> Result<(), AllocError> {
+    pub fn push(&self, scene: &Scene<'_>, report: &mut String) -> Result<(), AllocError> {
         for (worker, deed) in &self.deeds {
-            self.push_deed(report, worker.saturating_add(1), *deed)?;
+            push_deed(scene, report, worker.saturating_add(1), *deed)?;
         }
         let more = self.count.saturating_sub(self.deeds.len());
         if more > 0 {
             let more = say("and {} more line{}\n").counted(more);
-            self.scene.push(report, &more)?;
+            scene.push(report, &more)?;
         }
         Ok(())
     }
 
     /// Adds a line for the last deed of a worker, counted from 1, or nothing if there is no such worker.
-    pub fn push_last(&self, report: &mut String, worker: u32) -> Result<(), AllocError> {
+    pub fn push_last(
+        &self,
+        scene: &Scene<'_>,
+        report: &mut String,
+        worker: u32,
+    ) -> Result<(), AllocError> {
         let worker = worker as usize;
         match self.hands.get(worker.saturating_sub(1)) {
             Some(
@@ -389,104 +454,112 @@ impl<'a> Deeds<'a> {
                     last: Some(deed),
                     ..
                 },
-            ) => self.push_deed(report, worker, *deed),
-            Some(_) => self
-                .scene
-                .push(report, &say("worker {} has done nothing\n").count(worker)),
+            ) => push_deed(scene, report, worker, *deed),
+            Some(_) => scene.push(report, &say("worker {} has done nothing\n").count(worker)),
             None => Ok(()),
         }
     }
+}
 
-    // A line for a deed.
-    fn push_deed(&self, report: &mut String, worker: usize, deed: Deed) -> Result<(), AllocError> {
-        match deed {
-            Deed::Makes(stretch) => self.push_stretch(report, worker, &stretch)?,
-            Deed::Tells(words, at, number) => {
-                let words = match at {
-                    Some(at) => say(words.0).count(worker).count(self.scene.line(at)),
-                    None => say(words.1).count(worker),
-                };
-                self.scene.push(report, &words.count(number))?;
-            }
-            Deed::Ends(twin) => self.push_end(report, worker, twin)?,
+// A line for a deed.
+fn push_deed(
+    scene: &Scene<'_>,
+    report: &mut String,
+    worker: usize,
+    deed: Deed,
+) -> Result<(), AllocError> {
+    match deed {
+        Deed::Makes(stretch) => push_stretch(scene, report, worker, &stretch)?,
+        Deed::Tells(words, at, number) => {
+            let words = match at {
+                Some(at) => say(words.0).count(worker).count(scene.line(at)),
+                None => say(words.1).count(worker),
+            };
+            scene.push(report, &words.count(number))?;
         }
-        report.push('\n')
+        Deed::Ends(twin) => push_end(scene, report, worker, twin)?,
     }
+    report.push('\n')
+}
 
-    // The strands, their lines and events, and the frames of the first and the last.
-    fn push_stretch(
-        &self,
-        report: &mut String,
-        worker: usize,
-        stretch: &Stretch,
-    ) -> Result<(), AllocError> {
-        let scene = &self.scene;
-        if stretch.strand == 0 {
-            let departs = say("worker {}: {} event{} that the serial run doesn't have there");
-            return scene.push(report, &departs.count(worker).counted(stretch.count));
-        }
-        scene.push(report, &say("worker {}: ").count(worker))?;
-        let first = stretch.strand as usize;
-        let last = self.strands.get(stretch.last).copied().unwrap_or(0) as usize;
-        push_range(
-            report,
-            scene,
-            ("strand {}, ", "strands {} to {}, "),
-            first,
-            last,
-        )?;
-        let (first, last) = (scene.line(stretch.from), scene.line(stretch.upto));
-        push_range(report, scene, ("line {} ", "lines {} to {} "), first, last)?;
-        let first = stretch.first.saturating_add(1);
-        let last = stretch.last.saturating_add(1);
-        push_range(
-            report,
-            scene,
-            ("(event {})", "(events {} to {})"),
-            first,
-            last,
-        )?;
-        report.push_str(" in ")?;
-        push_runners(report, scene, stretch.first, stretch.last)
+// The strands, their lines and events, and the frames of the first and the last.
+fn push_stretch(
+    scene: &Scene<'_>,
+    report: &mut String,
+    worker: usize,
+    stretch: &Stretch,
+) -> Result<(), AllocError> {
+    if stretch.strand == 0 {
+        let departs = say("worker {}: {} event{} that the serial run doesn't have there");
+        return scene.push(report, &departs.count(worker).counted(stretch.count));
     }
+    scene.push(report, &say("worker {}: ").count(worker))?;
+    push_range(
+        report,
+        scene,
+        ("strand {}, ", "strands {} to {}, "),
+        stretch.strand as usize,
+        stretch.end as usize,
+    )?;
+    let (first, last) = (scene.line(stretch.from), scene.line(stretch.upto));
+    push_range(report, scene, ("line {} ", "lines {} to {} "), first, last)?;
+    let first = stretch.first.saturating_add(1);
+    let last = stretch.last.saturating_add(1);
+    push_range(
+        report,
+        scene,
+        ("(event {})", "(events {} to {})"),
+        first,
+        last,
+    )?;
+    report.push_str(" in ")?;
+    push_runners(report, scene, stretch.first, stretch.last)
+}
 
-    // The frame that ends, and where it was spawned.
-    fn push_end(
-        &self,
-        report: &mut String,
-        worker: usize,
-        twin: Option<usize>,
-    ) -> Result<(), AllocError> {
-        let scene = &self.scene;
-        let Some(frame) = twin else {
-            return scene.push(report, &say("worker {} ends a child").count(worker));
-        };
-        scene.push(report, &say("worker {} ends ").count(worker))?;
-        push_runner(report, scene, frame)?;
-        if frame == 0 {
-            return Ok(());
-        }
-        let line = scene.line(scene.note(frame).invoked_at);
-        scene.push(report, &say(", spawned on line {}").count(line))
+// The frame that ends, and where it was spawned.
+fn push_end(
+    scene: &Scene<'_>,
+    report: &mut String,
+    worker: usize,
+    twin: Option<usize>,
+) -> Result<(), AllocError> {
+    let Some(frame) = twin else {
+        return scene.push(report, &say("worker {} ends a child").count(worker));
+    };
+    scene.push(report, &say("worker {} ends ").count(worker))?;
+    push_runner(report, scene, frame)?;
+    if frame == 0 {
+        return Ok(());
     }
+    let line = scene.line(scene.note(frame).invoked_at);
+    scene.push(report, &say(", spawned on line {}").count(line))
 }
 
 // The form of an event, and its cell if a global has it: other cells, and frames, are numbered as a
-// schedule begins them.
-fn form_of(event: &Event, globals: usize) -> (u8, usize) {
+// schedule begins them. There are fewer cells than 28 bits count.
+fn form_of(event: &Event, globals: usize) -> u32 {
     match *event {
-        Event::Begin { .. } => (0, 0),
-        Event::Spawn { .. } => (1, 0),
-        Event::Call { .. } => (2, 0),
-        Event::Resume { .. } => (3, 0),
-        Event::Sync => (4, 0),
-        Event::End => (5, 0),
-        Event::Read { cell, .. } => (6, globals.min(cell as usize)),
-        Event::Write { cell, .. } => (7, globals.min(cell as usize)),
-        Event::Create { .. } => (8, 0),
-        Event::Update { .. } => (9, 0),
-        Event::Set { .. } => (10, 0),
-        Event::Value { .. } => (11, 0),
-        Event::Print { .. } => (12, 0),
+        Event::Begin { .. } => 0,
+        Event::Spawn { .. } => 1,
+        Event::Call { .. } => 2,
+        Event::Resume { .. } => 3,
+        Event::Sync => 4,
+        Event::End => 5,
+        Event::Create { .. } => 6,
+        Event::Update { .. } => 7,
+        Event::Set { .. } => 8,
+        Event::Value { .. } => 9,
+        Event::Print { .. } => 10,
+        Event::Read { cell, .. } => of_cell(11, cell, globals),
+        Event::Write { cell, .. } => of_cell(12, cell, globals),
     }
+}
+
+fn of_cell(form: u32, cell: u32, globals: usize) -> u32 {
+    let cell = if (cell as usize) < globals {
+        cell
+    } else {
+        u32::MAX >> 4
+    };
+    cell.saturating_mul(16).saturating_add(form)
 }

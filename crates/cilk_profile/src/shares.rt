@@ -43,9 +43,9 @@ pub fn find_shares(scene: &Scene<'_>, shares: &mut Vec<Share>) -> Result<(), All
             share.add(note, chains.steps.as_slice());
         }
     }
-    let mut index: usize = 0;
-    for step in &run.replay.steps {
-        if let Some(note) = run.replay.frames.get(step.frame)
+    for index in 0..run.replay.steps.len() {
+        if let Some(step) = run.replay.steps.get(index)
+            && let Some(note) = run.replay.frames.get(step.frame)
             && let Some(share) = shares.get_mut(group_of(note.body, functions))
         {
             share.events = share.events.saturating_add(1);
@@ -55,7 +55,6 @@ pub fn find_shares(scene: &Scene<'_>, shares: &mut Vec<Share>) -> Result<(), All
                 share.strands = share.strands.saturating_add(1);
             }
         }
-        index = index.saturating_add(1);
     }
     Ok(())
 }
@@ -63,7 +62,7 @@ pub fn find_shares(scene: &Scene<'_>, shares: &mut Vec<Share>) -> Result<(), All
 impl Share {
     /// Adds a frame. Its events are added to the group's work unless an outer frame of the group has
     /// them. Only the first frame is begun by the first event.
-    pub fn add(&mut self, note: &FrameNote, steps: &[usize]) {
+    pub fn add(&mut self, note: &FrameNote, steps: &[u32]) {
         let last = note.ended.unwrap_or(0);
         let first = match note.begun {
             0 => 0,
@@ -73,7 +72,7 @@ impl Share {
         let begin = steps.get(first).copied().unwrap_or(0);
         let end = steps.get(last).copied().unwrap_or(0).saturating_add(1);
         self.frames = self.frames.saturating_add(1);
-        self.span = self.span.max(end.saturating_sub(begin) as u64);
+        self.span = self.span.max(u64::from(end.saturating_sub(begin)));
         if first >= self.upto {
             self.work = self.work.saturating_add(upto.saturating_sub(first) as u64);
             self.upto = upto;

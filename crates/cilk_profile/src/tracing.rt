@@ -3,7 +3,7 @@
 ghost use Rattle.std.specs.Prelude.{◌≡◌, ◌<◌};
 ghost use Rattle.cilk_schedule.specs.Played.{IsUnstopped};
 
-use crate::deeds::Deeds;
+use crate::deeds::{Deeds, Record};
 use cilk_findings::case::Case;
 use cilk_findings::fault::CaseFault;
 use cilk_findings::kept::{CaseTexts, Kept};
@@ -71,12 +71,23 @@ impl Left<'_> {
                 Some(Next::Past(_)) | None => return None,
             }
         }
-        self.worker = self.worker.saturating_add(1);
-        if machine.holds(self.worker) {
-            Some(Choice::Run(self.worker))
-        } else {
-            Some(Choice::Steal(self.worker, 0))
+        self.turn(machine)
+    }
+
+    // The choice of the next worker of a round that can make one, or else of its last worker. Where nothing
+    // is offered, a worker without a frame can't.
+    fn turn(&mut self, machine: &Machine<'_>) -> Option<Choice> {
+        let is_offered = machine.offered() > 0;
+        for _turn in self.worker..self.workers {
+            self.worker = self.worker.saturating_add(1);
+            if machine.holds(self.worker) {
+                return Some(Choice::Run(self.worker));
+            }
+            if is_offered || self.worker >= self.workers {
+                return Some(Choice::Steal(self.worker, 0));
+            }
         }
+        None
     }
 
     // Whether what came of the latest choice ends the script. A turn in a round may be skipped.
@@ -114,32 +125,36 @@ fn push_script(
     requires { 0 < manner.workers }
 {
     let run = Run::of(case)?;
-    match read(case.alloc, script) {
-        Ok(steps) => push_run(
-            report,
-            Scene { case, run: &run },
-            manner,
-            telling,
-            steps.as_slice(),
-        ),
-        Err(ScriptFault::Line(_)) => Err(CaseFault::Unfit),
-        Err(ScriptFault::Memory) => Err(CaseFault::Memory),
+    let record = match read(case.alloc, script) {
+        Ok(steps) => record_of(case, run, manner, steps.as_slice())?,
+        Err(ScriptFault::Line(_)) => return Err(CaseFault::Unfit),
+        Err(ScriptFault::Memory) => return Err(CaseFault::Memory),
+    };
+    // The events were freed for those of the machine.
+    let run = Run::of(case)?;
+    let scene = Scene { case, run: &run };
+    match telling {
+        Telling::All => record.push(&scene, report)?,
+        Telling::LastOf(worker) => record.push_last(&scene, report, worker)?,
     }
+    Ok(())
 }
 
-// Makes the choices of a script, from the run's beginning, and tells what comes of them.
-fn push_run(
-    report: &mut String,
-    scene: Scene<'_>,
+// Makes the choices of a script, from the run's beginning, and returns what comes of them. Of the serial run
+// only what the deeds need stays in memory.
+fn record_of(
+    case: &Case<'_>,
+    run: Run,
     manner: Manner,
-    telling: Telling,
     steps: &[Step],
-) -> Result<(), CaseFault>
+) -> Result<Record, AllocError>
     requires { 0 < manner.workers }
 {
-    let Scene { case, run } = scene;
-    let mut machine = Machine::new(case.alloc, &run.code, &case.input, manner.workers)?;
-    let mut deeds = Deeds::new(case.alloc, scene);
+    let (code, trace, replay) = run.without_outcome();
+    let globals = case.program.globals.len();
+    let mut deeds = Deeds::new(case.alloc, globals, trace.as_slice(), &replay)?;
+    drop(trace);
+    let mut machine = Machine::new(case.alloc, &code, &case.input, manner.workers)?;
     let mut left = Left {
         choices: Choices::new(steps),
         workers: manner.workers,
@@ -148,11 +163,7 @@ fn push_run(
         worker: 0,
     };
     follow_on(case.alloc, &mut machine, &mut left, &mut deeds)?;
-    match telling {
-        Telling::All => deeds.push(report)?,
-        Telling::LastOf(worker) => deeds.push_last(report, worker)?,
-    }
-    Ok(())
+    Ok(deeds.into_record())
 }
 
 fn follow_on(
@@ -170,6 +181,7 @@ fn follow_on(
         };
         match machine.choose(alloc, choice) {
             Ok(told) if left.ends_by(&told) => break,
+            Ok(Told::Skipped) => {}
             Ok(told) => deeds.note(choice, Ok(told))?,
             Err(Stop::At { fault, strand: _ }) => {
                 return deeds.note(choice, Err(fault.number()));

@@ -10,11 +10,12 @@ use rand_core::utils::NextWord;
 use rand_pcg::Pcg32;
 use std::alloc::{AllocError, Global};
 
-// How many schedules are drawn, and the most events that their runs have together: a play costs several
-// times as much as the serial run.
+// How many schedules are drawn.
 const DRAWN: usize = 16;
 
-const MADE: usize = 2_000_000;
+/// The most events of a run of which schedules are drawn: a play costs several times as much as the serial
+/// run.
+pub const LONGEST: usize = 125_000;
 
 // How often a worker steals, if it is idle, and continues.
 const MOVES: usize = 100;
@@ -59,7 +60,7 @@ pub fn draw(
     let events = scene.run.trace.len();
     let mut best: Option<Drawn> = None;
     let (mut least, mut tried) = (least, 0);
-    if events <= MADE / DRAWN {
+    if events <= LONGEST {
         for number in 0..DRAWN {
             let drawn = numbered(scene, serial, number)?;
             tried = number + 1;
@@ -145,7 +146,8 @@ fn play(
         line: 1,
         order: LineOrder::All,
     })?;
-    played(scene, serial, players, whole.as_slice())
+    let Scene { case, run } = scene;
+    played(case, &run.code, serial, players, whole.as_slice())
 }
 
 // Looks for a short beginning that tells as much, by halving. Two steps are left at least, of which the

@@ -1,6 +1,7 @@
 //! What a schedule leaves, beside what the serial run leaves.
 
-use cilk_findings::scene::Scene;
+use cilk_findings::case::Case;
+use cilk_lower::code::Code;
 use cilk_messages::sentence::{Part, Sentence, say};
 use cilk_parser::script::Step;
 use cilk_schedule::{PlayFault, play_steps_on};
@@ -50,14 +51,14 @@ pub const TWO: Players = Players {
 /// Plays steps. Returns how much their outcome tells a reader, and in words how it differs from the
 /// serial run's. Where it tells little, the next gap of the words is for how many scripts were tried.
 pub fn played(
-    scene: &Scene<'_>,
+    case: &Case<'_>,
+    code: &Code,
     serial: &Outcome,
     players: Players,
     steps: &[Step],
 ) -> Result<(u8, Sentence<'static>), AllocError> {
-    let Scene { case, run } = scene;
     let workers = players.count.max(1);
-    match play_steps_on(case.alloc, &run.code, &case.input, workers, steps) {
+    match play_steps_on(case.alloc, code, &case.input, workers, steps) {
         Ok(Some(outcome)) => Ok(differing(&outcome, serial, players.words)),
         Ok(None) | Err(PlayFault::Line(_)) => Ok((NONE, say(""))),
         Err(PlayFault::Stop { fault, .. }) => {

@@ -2,7 +2,7 @@
 
 use crate::cures::push_cure;
 use crate::pair::{Pair, Race, name_of, pair_of};
-use crate::schedules::search;
+use crate::schedules::{Found, Schedule, only_one, search, search_one};
 use cilk_findings::case::Case;
 use cilk_findings::fault::CaseFault;
 use cilk_findings::further::push_further;
@@ -23,16 +23,48 @@ pub fn of_race(
     later: u64,
 ) -> Result<String, CaseFault> {
     let run = Run::of(case)?;
-    report_of(&Scene { case, run: &run }, Race::of(number, earlier, later))
+    let Report {
+        mut text,
+        schedule,
+        further,
+    } = report_of(&Scene { case, run: &run }, Race::of(number, earlier, later))?;
+    if let Some(found) = found_of(case, run, schedule)? {
+        found.push(case, &mut text)?;
+    }
+    text.push_str(further.as_str())?;
+    Ok(text)
 }
 
-fn report_of(scene: &Scene<'_>, race: Race) -> Result<String, CaseFault> {
+/// The schedule that a report shows.
+#[derive(Drop)]
+enum Shown {
+    /// The one that was found, if one was.
+    Played(Option<Schedule>),
+    /// This one of a long run, once it is played.
+    Due(Found),
+}
+
+// The schedule, played. The run isn't needed any more.
+fn found_of(case: &Case<'_>, run: Run, schedule: Shown) -> Result<Option<Schedule>, AllocError> {
+    match schedule {
+        Shown::Played(found) => Ok(found),
+        Shown::Due(found) => search_one(case, run, found),
+    }
+}
+
+/// A report: its text up to the schedule, the schedule, and the further races.
+#[derive(Drop)]
+struct Report {
+    text: String,
+    schedule: Shown,
+    further: String,
+}
+
+fn report_of(scene: &Scene<'_>, race: Race) -> Result<Report, CaseFault> {
     if scene.run.event(race.earlier).is_none() || scene.run.event(race.later).is_none() {
         return Err(CaseFault::Unfit);
     }
-    let mut report = String::new(scene.case.alloc);
-    push_race(scene, &mut report, race)?;
-    Ok(report)
+    Ok(report_on(scene, race)?)
 }
 
 /// Returns the script of the schedule of two workers that the report on a race has, if there is one
@@ -44,21 +76,32 @@ pub fn script_of_race(
     later: u64,
 ) -> Result<Option<String>, CaseFault> {
     let run = Run::of(case)?;
-    script_of(&Scene { case, run: &run }, Race::of(number, earlier, later))
-}
-
-fn script_of(scene: &Scene<'_>, race: Race) -> Result<Option<String>, CaseFault> {
-    let Some(pair) = pair_of(scene, race)? else {
-        return Ok(None);
-    };
-    match search(scene, &pair)? {
-        Some(found) => Ok(Some(found.script(scene.case)?)),
+    let schedule = schedule_of(&Scene { case, run: &run }, Race::of(number, earlier, later))?;
+    match found_of(case, run, schedule)? {
+        Some(found) => Ok(Some(found.script(case)?)),
         None => Ok(None),
     }
 }
 
+fn schedule_of(scene: &Scene<'_>, race: Race) -> Result<Shown, AllocError> {
+    match pair_of(scene, race)? {
+        Some(pair) => shown(scene, &pair),
+        None => Ok(Shown::Played(None)),
+    }
+}
+
+// The schedule that shows a race, or the one that is to be played.
+fn shown(scene: &Scene<'_>, pair: &Pair) -> Result<Shown, AllocError> {
+    match only_one(scene, pair) {
+        Some(found) => Ok(Shown::Due(found)),
+        None => Ok(Shown::Played(search(scene, pair)?)),
+    }
+}
+
 // The race of a reducer is shown by the first of its reads that a schedule can change.
-fn push_race(scene: &Scene<'_>, report: &mut String, race: Race) -> Result<(), AllocError> {
+fn report_on(scene: &Scene<'_>, race: Race) -> Result<Report, AllocError> {
+    let mut text = String::new(scene.case.alloc);
+    let report = &mut text;
     let pair = pair_of(scene, race)?;
     let later = match pair {
         Some(pair) if !race.is_of_cell() && pair.earlier != race.later => pair.later,
@@ -75,14 +118,20 @@ fn push_race(scene: &Scene<'_>, report: &mut String, race: Race) -> Result<(), A
         }
         None => report.push('\n')?,
     }
+    let mut schedule = Shown::Played(None);
     if let Some(pair) = pair {
         push_pair(scene, report, &pair)?;
+        schedule = shown(scene, &pair)?;
     }
+    let mut further = String::new(scene.case.alloc);
     if race.is_of_cell() {
-        push_further(scene, report, race.earlier, later)
-    } else {
-        Ok(())
+        push_further(scene, &mut further, race.earlier, later)?;
     }
+    Ok(Report {
+        text,
+        schedule,
+        further,
+    })
 }
 
 // Both events with their places, the earlier one first.
@@ -149,7 +198,7 @@ fn done_by(event: &Event) -> Sentence<'static> {
     say(words).with(Part::Number(value))
 }
 
-// Both paths up to the common frame, the spawn, and a schedule.
+// Both paths up to the common frame, and the spawn.
 fn push_pair(scene: &Scene<'_>, report: &mut String, pair: &Pair) -> Result<(), AllocError> {
     let common = pair.common;
     for (words, frame, top) in [
@@ -168,9 +217,5 @@ fn push_pair(scene: &Scene<'_>, report: &mut String, pair: &Pair) -> Result<(), 
         let spawn = scene.place(scene.note(pair.child).invoked_at);
         say("parallel: the spawn at {} lets its child run beside what follows it\n").with(spawn)
     };
-    scene.push(report, &parallel)?;
-    match search(scene, pair)? {
-        Some(found) => found.push(scene.case, report),
-        None => Ok(()),
-    }
+    scene.push(report, &parallel)
 }

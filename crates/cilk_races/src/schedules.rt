@@ -1,10 +1,12 @@
 //! A search for a schedule that shows a race.
 
-use crate::chance::{Drawn, draw};
+use crate::chance::{Drawn, LONGEST, draw};
 use crate::outcomes::{MOST, NONE, SAME, TWO, played};
 use crate::pair::Pair;
 use cilk_findings::case::Case;
+use cilk_findings::runs::Run;
 use cilk_findings::scene::Scene;
+use cilk_lower::code::Code;
 use cilk_messages::sentence::{Sentence, push_line, say};
 use cilk_parser::script::{LineOrder, Step};
 use cilk_types::event::Event;
@@ -90,6 +92,34 @@ pub fn search(scene: &Scene<'_>, pair: &Pair) -> Result<Option<Schedule>, AllocE
     })
 }
 
+/// Returns the one schedule of a long run, before it is played: the one that makes the later event first.
+/// None of a run of which [`search`] plays more, or that a fault stops.
+pub fn only_one(scene: &Scene<'_>, pair: &Pair) -> Option<Found> {
+    if scene.run.trace.len() <= LONGEST || scene.run.outcome.is_none() {
+        return None;
+    }
+    Some(schedule_of(scene, pair, NEAR[0], BEYOND[0]))
+}
+
+/// Plays the one schedule of a long run, and returns what [`search`] would. The run's events and notes are
+/// freed first: with those that the play makes they would take twice the memory.
+pub fn search_one(case: &Case<'_>, run: Run, found: Found) -> Result<Option<Schedule>, AllocError> {
+    let (code, outcome) = run.without_events();
+    let Some(serial) = &outcome else {
+        return Ok(None);
+    };
+    let (told, words) = found.play(case, &code, serial)?;
+    if told == NONE {
+        return Ok(None);
+    }
+    let near = Found {
+        told,
+        words,
+        ..found
+    };
+    Ok(Some(Schedule::Near(near, 1)))
+}
+
 // The schedule near the race that tells most, and how many were played.
 fn best_of(scene: &Scene<'_>, pair: &Pair, serial: &Outcome) -> Result<(Found, usize), AllocError> {
     let mut best = schedule_of(scene, pair, 0, 0);
@@ -102,7 +132,7 @@ fn best_of(scene: &Scene<'_>, pair: &Pair, serial: &Outcome) -> Result<(Found, u
         if number > 2 && is_again(scene, pair, number.saturating_sub(2), &found) {
             continue;
         }
-        let (told, words) = found.play(scene, serial)?;
+        let (told, words) = found.play(scene.case, &scene.run.code, serial)?;
         played = played.saturating_add(1);
         if told > best.told {
             best = Found {
@@ -158,7 +188,8 @@ impl Found {
     // How its outcome differs, if `play` takes it and reaches the run's end.
     fn play(
         &self,
-        scene: &Scene<'_>,
+        case: &Case<'_>,
+        code: &Code,
         serial: &Outcome,
     ) -> Result<(u8, Sentence<'static>), AllocError> {
         let place = u32::try_from(self.place).unwrap_or(u32::MAX);
@@ -175,7 +206,7 @@ impl Found {
                 order: LineOrder::All,
             },
         ];
-        played(scene, serial, TWO, &steps)
+        played(case, code, serial, TWO, &steps)
     }
 }
 
