@@ -161,19 +161,14 @@ impl Critical<'_> {
                 site.share.add(note, self.chains.steps.as_slice());
                 let upto = site.share.upto;
                 if upto > counted {
-                    let ahead = self.ahead_of(note.begun.saturating_add(1));
-                    let inside = self.ahead_of(upto).saturating_sub(ahead);
+                    let ahead = ahead_of(self.ahead.as_slice(), note.begun.saturating_add(1));
+                    let inside = ahead_of(self.ahead.as_slice(), upto).saturating_sub(ahead);
                     site.on_path = site.on_path.saturating_add(u64::from(inside));
                 }
                 *place = Some(site);
             }
         }
         Ok(())
-    }
-
-    // The number of events of the path before an event.
-    fn ahead_of(&self, event: usize) -> u32 {
-        self.ahead.get(event).copied().unwrap_or(0)
     }
 
     // Adds a line for each place, in the order of the text, if there is one.
@@ -282,6 +277,11 @@ fn push_words(text: &mut String, case: &Case<'_>, line: &Line) -> Result<(), All
         count = count.saturating_add(1);
     }
     Ok(())
+}
+
+// The number of events of the path before an event.
+fn ahead_of(ahead: &[u32], event: usize) -> u32 {
+    ahead.get(event).copied().unwrap_or(0)
 }
 
 fn count_at(counts: &[u64], place: usize) -> u64 {
