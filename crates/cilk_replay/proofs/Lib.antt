@@ -32,6 +32,7 @@ pub mod Resuming
 pub mod RunsEnd
 pub mod Seeing
 pub mod Starts
+pub mod Stretches
 pub mod EventOrderValues
 pub mod Unended
 pub mod Worked

@@ -26,7 +26,7 @@ use Rattle.cilk_tree.specs.Orders.{IsEventOrderOf, IsOrderly}
 use Rattle.cilk_tree.specs.Races.{event_at}
 use Rattle.cilk_tree.specs.Reach.{Among, IsSynced, Reaches, direct, through, preceding, resumed_from, awaited}
 use Rattle.cilk_tree.specs.Shape.{Shape, finish, act, sync, child, start_of}
-use Rattle.cilk_tree.specs.Word.{IsWord, event, predecessors_of, resume, spawn, word_step}
+use Rattle.cilk_tree.specs.Word.{IsWord, event, predecessors_of, resume, word_step}
 use Rattle.cilk_tree.proofs.EventOrderLines.{IsReturn, Marked, end_of, ends_last, marked_shape, start_not_resume}
 use Rattle.cilk_tree.proofs.Events.{mark_at, resume_mark, spawn_of}
 use Rattle.cilk_tree.proofs.Lines.{ComesAfter, IsClosed, Laid, Line, SyncAhead, closed_line, laid_whole, line_of, long, plain, whole}

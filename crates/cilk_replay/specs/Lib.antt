@@ -10,6 +10,7 @@ pub mod InputResumes
 pub mod Left
 pub mod LikeRuns
 pub mod Lists
+pub mod Making
 pub mod Owned
 pub mod Points
 pub mod Reducing

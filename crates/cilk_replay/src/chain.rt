@@ -4,17 +4,21 @@ ghost use Rattle.std.specs.Prelude.{◌≡◌, ◌+◌, ◌<◌, false, IfOk, Is
 ghost use Rattle.cilk_types.specs.declared.event.Event.TheVariants.{End};
 ghost use Rattle.cilk_tree.specs.Word.{resume, word_step};
 ghost use Rattle.cilk_replay.specs.Chains.{standing, task_of};
+ghost use Rattle.cilk_replay.specs.Making.{Compares};
+ghost use Rattle.cilk_shared.specs.Pieces.{PieceValue};
 
 use crate::child::{body_asked, body_matches};
 use crate::plan_match::PlanMatch;
 use crate::reducer::{reducer_asked, reducer_matches};
 use crate::replay::{Replay, ReplayModel};
 use crate::replay_frame::{ReplayFrame, go_on};
-use crate::sight::{cell_asked, cell_matches};
+use crate::sight::{Sight, cell_asked, cell_matches};
 use crate::sort::{asked_sort, kind_sort};
+use crate::stretch::Maker;
 use cilk_frames::asked::AskSlot;
 use cilk_frames::cursor::Answer;
 use cilk_frames::small_ask::SmallAsk;
+use cilk_shared::piece::Piece;
 use cilk_tree::kind::Kind;
 use cilk_types::event::{FrameNo, Pos};
 use std::alloc::{AllocError, Global};
@@ -80,6 +84,33 @@ impl Model for Rest {
     ghost invariant = { λ c. Rest c.of.value c.at c.top.value c.below.items };
 }
 
+// Whether a frame with this sight, which has requested this, requests an event of this kind that the
+// plan has next.
+#[inline(always)]
+pub(crate) fn compared(replay: &Replay, sight: &Sight, asked: &AskSlot, kind: Kind) -> PlanMatch
+    ensures { Compares replay.now sight.now asked.now kind result }
+{
+    if asked_sort(asked) != kind_sort(kind) {
+        return PlanMatch::Departs;
+    }
+    match kind {
+        Kind::Read { cell } | Kind::Write { cell } => cell_matches(
+            cell_asked(replay.globals(), sight, asked),
+            cell,
+        ),
+        Kind::Begin { .. } | Kind::Resume { .. } | Kind::Sync | Kind::End | Kind::Print => {
+            PlanMatch::Follows
+        }
+        Kind::Spawn { child } | Kind::Call { child } => {
+            body_matches(replay.body(child), body_asked(asked))
+        }
+        Kind::Create { instance }
+        | Kind::Update { instance }
+        | Kind::Set { instance }
+        | Kind::Value { instance } => reducer_matches(reducer_asked(sight, asked), instance),
+    }
+}
+
 impl Chain {
     ghost use Rattle.std.specs.Prelude.{Some};
     ghost use Rattle.cilk_tree.specs.Kinds.{kind_of_event};
@@ -128,28 +159,7 @@ impl Chain {
         ensures { Says self.now.of.yard.event_order self.now.at kind result }
     {
         let replay_frame = &*self.top;
-        if asked_sort(&self.asked) != kind_sort(kind) {
-            return PlanMatch::Departs;
-        }
-        match kind {
-            Kind::Read { cell } | Kind::Write { cell } => cell_matches(
-                cell_asked(replay.globals(), &replay_frame.sight, &self.asked),
-                cell,
-            ),
-            Kind::Begin { .. } | Kind::Resume { .. } | Kind::Sync | Kind::End | Kind::Print => {
-                PlanMatch::Follows
-            }
-            Kind::Spawn { child } | Kind::Call { child } => {
-                body_matches(replay.body(child), body_asked(&self.asked))
-            }
-            Kind::Create { instance }
-            | Kind::Update { instance }
-            | Kind::Set { instance }
-            | Kind::Value { instance } => reducer_matches(
-                reducer_asked(&replay_frame.sight, &self.asked),
-                instance,
-            ),
-        }
+        compared(replay, &replay_frame.sight, &self.asked, kind)
     }
 
     /// Continues the frame with the answer to its event.
@@ -160,6 +170,21 @@ impl Chain {
     {
         go_on(&mut self.top, replay, answer, &mut self.asked);
         self.at += 1;
+    }
+
+    /// Makes the frame's next events, as long as the maker makes them, up to its next invocation or
+    /// end at most. `piece` is the one that the frame continues.
+    pub fn along<M: Maker>(&mut self, alloc: Global, replay: &Replay, maker: &M, piece: &mut Piece)
+        requires replay { replay.now ≡ self.old.of }
+        requires maker { M.of maker.now ≡ replay.now }
+        requires place { piece.old.upto ≡ self.old.at }
+        requires reached { (first : PieceValue) × M.reaches maker.now first piece.old }
+        ensures chain { self.new ≡ standing self.old.of piece.new.upto }
+        ensures reached { (first : PieceValue) → M.reaches maker.now first piece.old
+            → M.reaches maker.now first piece.new }
+    {
+        self.top.along(alloc, replay, &mut self.asked, maker, piece);
+        self.at = piece.upto();
     }
 
     /// Begins the called child, while its caller waits. `frame` is the child's number, as in its

@@ -21,6 +21,7 @@
 //! |---|---|
 //! | [`chain::Chain::matches_plan`] | Whether the next request is the plan's event. |
 //! | [`chain::Chain::answer`] | Continues the frame; `call`, `spawn` and `end` change the frame. |
+//! | [`chain::Chain::along`] | Makes events of one frame, by a [`stretch::Maker`]. |
 //! | [`chain::Rest::wake`] | Continues a frame after its child. |
 //! | [`replay::Replay`] | The program's code and the input, along a plan. |
 //! | [`laws`] | A course in which each event is requested is a serial run. |
@@ -44,3 +45,4 @@ pub mod replay;
 pub mod replay_frame;
 pub mod sight;
 pub mod sort;
+pub mod stretch;
