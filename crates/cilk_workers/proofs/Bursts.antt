@@ -1,7 +1,7 @@
 -- A burst of turns keeps the tasks that wait.
 --
 -- - `other_kind`, `offers_other`: an event of another kind is no spawn;
--- - `goes`, `offers`, `resumes`: one turn more; `may_arrive`: why a piece arrives.
+-- - `goes`, `offers`, `resumes`: one turn more; `goes_on`: a stretch; `may_arrive`: why a piece arrives.
 use Rattle.std.proofs.Common.{◌≡◌, ◌∙◌, ℕ, ◌+◌, Bool, true, false, List, [], ◌∷◌, ◌++◌, Option, Some, None, ap, sym, subst, arith}
 use Rattle.std.specs.Prelude.{IfNone}
 use Rattle.cilk_replay.specs.declared.chain.Task.{Task}
@@ -12,7 +12,7 @@ use Rattle.cilk_tree.specs.declared.kind.Kind.TheVariants as kinds
 use Rattle.cilk_tree.specs.declared.event_order.EventOrder.{EventOrder}
 use Rattle.cilk_tree.specs.Word.{event, resume, word_step}
 use Rattle.cilk_types.specs.declared.event.Event.TheVariants.{End}
-use Rattle.cilk_workers.specs.Bursts.{KeepsTasks, Leads, MayArrive, passes, pushes, pops}
+use Rattle.cilk_workers.specs.Bursts.{GrowsOn, KeepsTasks, Leads, MayArrive, passes, pushes, pops}
 use Rattle.cilk_workers.specs.Held.{AreTaken, IsOfferedIf, IsSameRack, waiting}
 use Rattle.cilk_workers.specs.Shared.{SharedValue, event_order_in}
 use Rattle.cilk_workers.specs.Turns.{EndsBy, IsSpawnAt, OffersSpawn}
@@ -68,6 +68,10 @@ module _ {N : Type 0} (y : SharedValue) (a : ℕ) (r : Rack N) where
   -- an event that is no spawn
   pub goes : (before p : PieceValue) (q : Rack N) → KeepsTasks (event_order_in y) a r before.upto q → p ≡ grown before → (IsSpawnAt (event_order_in y) before.upto → ⊥) → KeepsTasks (event_order_in y) a r p.upto q
   goes before p q kept is none = (kept.0, subst (λ (z : PieceValue). Leads (event_order_in y) a (waiting r) z.upto (waiting q)) (sym is) (passes before.upto (waiting q) kept.1 none))
+
+  -- a stretch of such events
+  pub goes_on : (b d : ℕ) (q : Rack N) → KeepsTasks (event_order_in y) a r b q → GrowsOn (event_order_in y) b d → KeepsTasks (event_order_in y) a r d q
+  goes_on b d q kept grows = (kept.0, grows a (waiting r) (waiting q) kept.1)
 
   -- a spawn, and its continuation is pushed
   pub offers : (before p : PieceValue) (q q' : Rack N) (t : Task) → KeepsTasks (event_order_in y) a r before.upto q → p ≡ grown before → IsSpawnAt (event_order_in y) before.upto → t.ticket ≡ before.upto

@@ -23,3 +23,4 @@ pub mod SpawnCounts
 pub mod Spawned
 pub mod Steps
 pub mod Stolen
+pub mod Stretches

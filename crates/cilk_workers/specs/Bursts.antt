@@ -7,6 +7,8 @@ use Rattle.cilk_tree.specs.Word.{resume, word_step}
 use Rattle.cilk_tree.specs.declared.event_order.EventOrder.{EventOrder}
 use Rattle.cilk_workers.specs.Held.{AreTaken, IsSameRack, waiting}
 use Rattle.cilk_workers.specs.Keys.{Arrived}
+use Rattle.cilk_workers.specs.Rows.{IsGood}
+use Rattle.cilk_workers.specs.Shared.{SharedValue, event_order_in}
 use Rattle.cilk_workers.specs.Turns.{IsSpawnAt}
 use Rattle.cilk_workers.specs.declared.activity.Activity.{Activity}
 use Rattle.cilk_workers.specs.declared.activity.Activity.TheVariants as hands
@@ -21,6 +23,15 @@ pub data Leads (s : EventOrder) (a : ℕ) (ts : List Task) : ℕ → List Task �
   passes : (b : ℕ) (us : List Task) → Leads s a ts b us → (IsSpawnAt s b → ⊥) → Leads s a ts (b + 1) us
   pushes : (b : ℕ) (us : List Task) (t : Task) → Leads s a ts b us → IsSpawnAt s b → t.ticket ≡ b → Leads s a ts (b + 1) (us ++ t ∷ [])
   pops : (b : ℕ) (us : List Task) (t : Task) → Leads s a ts b (us ++ t ∷ []) → word_step s b ≡ resume t.ticket → Leads s a ts b us
+
+-- between the two positions no event is a spawn
+abbrev pub GrowsOn : EventOrder → ℕ → ℕ → Type 0
+GrowsOn s b d = (a : ℕ) (ts us : List Task) → Leads s a ts b us → Leads s a ts d us
+
+-- a good piece has become another by such events
+pub record Reaches (y : SharedValue) (first p : PieceValue) : Type 0 where
+  pub good : IsGood y.run p
+  pub grows : GrowsOn (event_order_in y) first.upto p.upto
 
 -- a worker whose piece hasn't arrived has come to position b; one that ran out of memory, to any
 abbrev pub ComesTo : Activity → ℕ → Type 0

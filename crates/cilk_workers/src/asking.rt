@@ -12,8 +12,8 @@ use cilk_frames::asked::AskSlot;
 use cilk_frames::small_ask::SmallAsk;
 use cilk_replay::chain::Chain;
 
-// The number in a request, if it has one.
-fn number_in(asked: &AskSlot) -> Option<i64>
+/// Returns the number in a request, if it has one.
+pub(crate) fn number_in(asked: &AskSlot) -> Option<i64>
     ensures { result ≡ number_in asked.now }
 {
     match asked.small_ask() {

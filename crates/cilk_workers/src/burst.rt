@@ -15,6 +15,7 @@ ghost use Rattle.cilk_workers.specs.Keys.{AreKeys, Arrived};
 ghost use Rattle.cilk_workers.specs.WorkerContexts.{IsWorkerContext};
 
 use crate::activity::{Activity, ExitReason, Tools};
+use crate::along::along;
 use crate::context::WorkerContext;
 use crate::gate::{Gate, tell};
 use crate::lock::{Key, never};
@@ -30,8 +31,9 @@ use cilk_shared::taken::Denied;
 use cilk_types::event::Pos;
 use std::sync::Wait;
 
-/// The greatest number of turns before a worker checks whether another has stopped the run.
-const TURNS: u32 = 256;
+/// The greatest number of turns before a worker checks whether another has stopped the run. With a
+/// stretch before each, that is up to 256 events.
+const TURNS: u32 = 16;
 
 // The worker's own newest task, unless the yard refused it the continuation that it was to resume.
 fn behind<N: Naming>(rack: &mut Rack<N>, denied: &Option<Denied>) -> Option<Task>
@@ -111,7 +113,8 @@ impl<'a, 'b, N: Naming, R: Wait, G: Gate> WorkerContext<'a, 'b, N, R, G> {
         rack.offer(task).is_ok()
     }
 
-    /// Makes up to `TURNS` turns of a worker that holds a piece and a chain.
+    /// Makes up to `TURNS` turns of a worker that holds a piece and a chain, and a stretch of events
+    /// before each.
     ///
     /// When a child has ended, the worker continues with its own newest task, the child's
     /// continuation. If it has none, or the yard refused it the continuation that it was to resume, its
@@ -127,6 +130,7 @@ impl<'a, 'b, N: Naming, R: Wait, G: Gate> WorkerContext<'a, 'b, N, R, G> {
         ensures hand { IsActivity self.now.shared.now result.0 }
     {
         'each: for _ in 0..TURNS {
+            along(self.alloc, self.shared, self.gate, self.worker, &mut work);
             let before = work.piece.upto();
             match act(self.alloc, self.shared, &mut work) {
                 Turn::Goes => tell(self.gate, self.worker, self.shared, before, &work.piece),

@@ -36,6 +36,7 @@
 #![tactic(auto)]
 
 pub mod activity;
+mod along;
 mod asking;
 pub mod awaited;
 pub mod burst;
