@@ -12,7 +12,7 @@ use Rattle.cilk_trace.specs.declared.intervals.Order.TheVariants as orders
 use Rattle.cilk_trace.specs.Accesses.{number}
 use Rattle.cilk_trace.specs.Frames.{Nests}
 use Rattle.cilk_trace.specs.Histories.{Kept, History, better, above}
-use Rattle.cilk_trace.specs.IntervalStacks.{IntervalStack, is_among, order_at, stack_of}
+use Rattle.cilk_trace.specs.IntervalStacks.{IntervalStack, is_among, order_at}
 use Rattle.cilk_trace.specs.Marks.{marks_of}
 use Rattle.cilk_trace.specs.Joined.{joined_opened, stack_at}
 use Rattle.cilk_trace.specs.Positions.{raised, renewed, raced, IsOrder, IsPast, OrderIsTold, kept_at, RacesAlike, HistoriesAlike}

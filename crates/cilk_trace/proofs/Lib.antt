@@ -28,6 +28,7 @@ pub mod Prefix
 pub mod Readings
 pub mod ReducerReads
 pub mod Results
+pub mod Segments
 pub mod Shapes
 pub mod Strands
 pub mod Surveying

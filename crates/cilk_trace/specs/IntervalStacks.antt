@@ -1,5 +1,5 @@
 -- The open intervals as they are kept: all children in one list, the last one last, and marks where each frame's begin.
-use Rattle.std.specs.Prelude.{ℕ, zero, suc, ◌-◌, ◌<◌, ◌≤◌, Bool, true, false, ◌&&◌, ◌||◌, nat_eq, nat_lt, nat_le, if◌then◌else◌, List, [], ◌∷◌, ◌++◌, length, take, slice_index_or}
+use Rattle.std.specs.Prelude.{ℕ, zero, suc, ◌-◌, ◌<◌, Bool, false, ◌&&◌, ◌||◌, nat_eq, nat_lt, nat_le, if◌then◌else◌, List, [], ◌∷◌, ◌++◌, length, take, slice_index_or}
 use Rattle.cilk_trace.specs.declared.line.Line.{Line}
 use Rattle.cilk_trace.specs.declared.line.Line.TheVariants as lines
 use Rattle.cilk_trace.specs.declared.intervals.Child.{Child}

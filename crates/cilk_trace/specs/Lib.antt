@@ -20,6 +20,7 @@ pub mod Positions
 pub mod Readers
 pub mod Reading
 pub mod Reducers
+pub mod Segments
 pub mod Structures
 pub mod Surveys
 pub mod TextReaders
