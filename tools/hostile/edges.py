@@ -301,6 +301,9 @@ def large_files(room, found):
         for name, answer in (("most", wanted), ("over", cannot_read("over"))):
             seen = room.run(*(it.format(name) for it in words), patience=LONG)
             found.expect(seen, answer, f"{' '.join(words)} with the file `{name}`")
+    for name in ("most", "over"):
+        seen = room.run("judge", name, patience=LONG)
+        found.expect(seen, Shown(2, b"", b"trace 301 at 1\n"), f"judge, which has no limit, with the file `{name}`")
 
 
 def long_lines(room, found):

@@ -45,7 +45,8 @@ def odd(room, found):
             "folder", "absent", "absent/absent", "all/absent", ".", "/", "", long_name, "a b\tc", "\u00e9", "-"
         ):
             given = [it.format(name) for it in words]
-            found.expect(room.run(*given), cannot_read(name), " ".join(given))
+            wanted = empty if given == ["judge", "-"] else cannot_read(name)  # (`-` is standard input, which is empty)
+            found.expect(room.run(*given), wanted, " ".join(given))
         for name in ("empty", "/dev/null"):
             given = [it.format(name) for it in words]
             found.expect(room.run(*given), empty, " ".join(given))
@@ -96,11 +97,12 @@ def feed(path, parts, pause):
 
 
 def fifos(room, found):
-    """Fifos that are fed slowly: they are read whole, a certificate from its beginning to its end."""
+    """Fifos that are fed slowly: they are read whole, a certificate or a trace from its beginning to its end."""
     program, cert, _ = rows.lay(room, "turns")
     numbers, path = "turns.in", f"{room.folder}/fifo"
     contents = {
-        "program": rows.TURNS.encode(), "input": b"7", "script": b"all\n", "certificate": rows.certificate("turns")
+        "program": rows.TURNS.encode(), "input": b"7", "script": b"all\n", "certificate": rows.certificate("turns"),
+        "trace": rows.TRACES["spawned"].encode(),
     }
     outcome = rows.OUTCOMES["turns"]
     for which, words, wanted in (
@@ -113,6 +115,7 @@ def fifos(room, found):
         ("input", ["threads", program, cert, "--input", numbers, "--on", "fifo"], outcome),
         ("certificate", ["check", program, "fifo", "--input", numbers], rows.ACCEPTED),
         ("certificate", ["threads", program, "fifo", "--input", numbers], outcome),
+        ("trace", ["judge", "fifo"], rows.JUDGED["spawned"]),
     ):  # fmt: skip
         os.mkfifo(path)
         text = contents[which]

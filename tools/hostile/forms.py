@@ -10,10 +10,11 @@ from hostile.room import NO_MEMORY
 
 # Letters stand for files: P a program, C a certificate, S a script, A one with `all` alone, O an input of `--on`, T a trace,
 # L a table of sites; N is a number of workers, or a line. `--input FILE` goes behind them where a program takes an input.
-# `< P` is a program on standard input.
+# `< P` is a program on standard input, `< T` a trace there.
 FORMS = {
     "traces": (
         "judge T", "judge T --explain", "judge T --sites L", "judge T --sites L --explain", "judge T --explain --color",
+        "judge - < T", "judge - --explain < T", "judge - --sites L < T",
     ),
     "certificates": (
         "check P C --explain", "check P C --helpers 2", "check P C --helpers 16", "check P C --helpers 2 --explain",
@@ -47,7 +48,12 @@ OPTION = re.compile(r"--[a-z]+")
 
 def words_of(form, names):
     """The words of a form, with these names in place of its letters."""
-    return [names.get(word, word) for word in form.removeprefix("< P").split()]
+    return [names.get(word, word) for word in form.partition("<")[0].split()]
+
+
+def given(form):
+    """The letter of the text that a form has on standard input; none where that is empty."""
+    return form.partition("<")[2].strip()
 
 
 def deal(kind, seed):

@@ -46,9 +46,9 @@ def bounded(room, found, told, fair, *words, stdin=b"", **bounds):
 
 def formed(room, found, told, form, fair, names, more=(), **bounds):
     """Tries a form of words, with the names of files for its letters."""
-    words, stdin = [*forms.words_of(form, names), *more], b""
-    if form == "< P":
-        words, stdin = [], room.get(names["P"])
+    words, letter = forms.words_of(form, names), forms.given(form)
+    stdin = room.get(names[letter]) if letter else b""
+    words += more if words else []
     return bounded(room, found, f"{told}: {form}", fair, *words, stdin=stdin, **bounds)
 
 

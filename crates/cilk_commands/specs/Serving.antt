@@ -50,7 +50,8 @@ InputFileFails failed failed' (Some path) r = FileFails failed failed' path r
 InputFileFails failed failed' None r = ⊥
 
 -- The surroundings of a call: the contents of files and of standard input, as far as they are
--- known, and the failed reads of files before the call and up to its end.
+-- known, and the failed reads of files before the call and up to its end. A trace on standard input is
+-- the file `-`.
 pub record Surroundings : Type 0 where
   pub files : Text → Option Text
   pub input : Option Text
@@ -122,7 +123,7 @@ abbrev pub IsStandard : Origin → Type 0
 IsStandard Standard = Unit {0}
 IsStandard (File path) = ⊥
 
--- only one order reads standard input
+-- only one order reads a program from standard input
 abbrev pub ReadsStandard : Option Requested → Type 0
 ReadsStandard (Some (Run program input)) = IsStandard program
 ReadsStandard _ = ⊥

@@ -2,7 +2,7 @@
 
 ghost use Rattle.std.specs.Prelude.{◌≡◌, ℕ, ◌+◌, ◌<◌, ◌≤◌, List, Option, IfOk, OnOk, Err, length};
 ghost use Rattle.cilk_commands.specs.Files.{EndsAt, Failures, IsHeld, IsPart, StayOrRise};
-ghost use Rattle.cilk_commands.specs.declared.disk.TheConstants.{MAX_FILE};
+ghost use Rattle.cilk_commands.specs.declared.disk.TheConstants.{MAX_FILE, MAX_STREAM};
 
 use std::alloc::{AllocError, AllocFailed, Global};
 use thiserror::Error;
@@ -37,6 +37,17 @@ impl<T: Drop> From<AllocFailed<T>> for FileFault {
     }
 }
 
+/// How a file is read in parts.
+#[derive(Clone, Copy)]
+pub enum Parts {
+    /// As a file, of at most [`MAX_FILE`](crate::disk::MAX_FILE) bytes.
+    OfFile,
+    /// As a stream, which needs no end. The path `-` is that of standard input. A stream may give its bytes
+    /// once, as standard input and a pipe do: then a reading from its beginning fails where another
+    /// one was before.
+    OfStream,
+}
+
 /// Files as the tool reads them: those of the system, or those of a test.
 pub trait Files {
     /// The number of reads so far that met a failing device, the byte from which the last of them
@@ -62,12 +73,19 @@ pub trait Files {
     /// Reads the file of a path once, from a byte on, counted from 0.
     ///
     /// Returns how many bytes are now at the front of `into`. If `into` isn't empty, 0 means the
-    /// end of the file. No byte past [`MAX_FILE`](crate::disk::MAX_FILE) is read. A failure of the
+    /// end of the file. No byte past [`MAX_STREAM`](crate::disk::MAX_STREAM) is read. A failure of the
     /// device is counted, and nothing else is.
-    fn part(&mut self, path: &str, at: u64, into: &mut [u8]) -> Result<usize, FileFault>
+    fn part(
+        &mut self,
+        path: &str,
+        parts: Parts,
+        at: u64,
+        into: &mut [u8],
+    ) -> Result<usize, FileFault>
         requires { (failed self.old).count < 18446744073709551615 }
         ensures within { IfOk result (λ n. n ≤ length into.old) }
-        ensures small { IfOk result (λ n. at + n ≤ MAX_FILE) }
+        ensures small { IfOk result (λ n. at + n ≤ MAX_STREAM) }
+        ensures limited { parts ≡ Parts.OfFile → IfOk result (λ n. at + n ≤ MAX_FILE) }
         ensures held { IfOk result (λ n. IsPart (holds self.old path.now) at n into.new) }
         ensures last { IfOk result (λ n. n ≡ 0 → 0 < length into.old → EndsAt (holds self.old path.now) at) }
         ensures counted { result ≡ Err FileFault.Device → (failed self.old).count < (failed self.new).count }

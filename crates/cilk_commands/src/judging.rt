@@ -1,10 +1,10 @@
-//! The command `judge`. A trace's file is read once, in parts, and nothing of it is kept.
+//! The command `judge`. A trace is read once, as a stream, and nothing of it is kept.
 
 ghost use Rattle.std.specs.Prelude.{◌≡◌, ◌<◌, IfOk, IfErr};
 ghost use Rattle.cilk_commands.specs.Replies.{answer_view, failure_view};
 ghost use Rattle.cilk_commands.specs.Traces.{IsNumbered, JudgeShows, unjudged_view, verdict_view};
 
-use crate::files::Files;
+use crate::files::{Files, Parts};
 use crate::parts::PartSource;
 use crate::reply::{Answer, Failure};
 use crate::trace_fault::Unjudged;
@@ -55,7 +55,7 @@ fn shown(verdict: Verdict) -> Answer
     }
 }
 
-/// Judges the trace in a file, in one reading. Memory: a byte for each mark of the trace, 8 bytes for each
+/// Judges the trace in a file, or that on standard input for the path `-`, in one reading. Memory: a byte for each mark of the trace, 8 bytes for each
 /// grain of 8, 4, 2 or 1 cells of the pages of 4,096 that it accesses; some 30 a strand only where
 /// another strand than a reducer's creator reads its view.
 pub fn judge<'a, F: Files>(
@@ -67,7 +67,7 @@ pub fn judge<'a, F: Files>(
     ensures answer { IfOk result (λ a. JudgeShows trace.entry.now (F.holds files.old trace.entry.now) (F.failed files.old) (F.failed files.new) (answer_view a)) }
     ensures failure { IfErr result (λ e. JudgeShows trace.entry.now (F.holds files.old trace.entry.now) (F.failed files.old) (F.failed files.new) (failure_view e)) }
 {
-    let mut source = PartSource::new(files, trace, trace);
+    let mut source = PartSource::new(files, trace, Parts::OfStream, trace);
     match judge_text(alloc, &mut source) {
         Ok(verdict) => Ok(shown(verdict)),
         Err(fault) => Err(unjudged(fault, trace)),

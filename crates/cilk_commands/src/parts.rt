@@ -5,7 +5,7 @@ ghost use Rattle.std.specs.Io.KnownBytes.{Consumes, IsAtEnd};
 ghost use Rattle.cilk_commands.specs.Files.{StayOrRise};
 ghost use Rattle.cilk_commands.specs.Sources.{kept_of};
 
-use crate::files::{FileFault, Files};
+use crate::files::{FileFault, Files, Parts};
 use cilk_checker::source::{PullFault, Source};
 
 /// The file `path`, from a byte on. The contents of the file `other` stay known. A read that fails is
@@ -15,6 +15,7 @@ pub struct PartSource<'f, 'p, F: Files> {
     files: &'f mut F,
     path: &'p str,
     other: &'p str,
+    parts: Parts,
     at: u64,
     // The number of bytes that the last pull gave.
     last: usize,
@@ -24,8 +25,9 @@ pub struct PartSource<'f, 'p, F: Files> {
 }
 
 impl<'f, 'p, F: Files> PartSource<'f, 'p, F> {
-    /// Returns a source at the beginning of the file `path`. The other file may be the same.
-    pub fn new(files: &'f mut F, path: &'p str, other: &'p str) -> Self
+    /// Returns a source at the beginning of the file `path`, which is read in such parts. The other file
+    /// may be the same.
+    pub fn new(files: &'f mut F, path: &'p str, parts: Parts, other: &'p str) -> Self
         ensures same_reference { result.files.ghost_name ≡ files.entry.ghost_name }
         ensures files { result.files.now ≡ files.old }
         ensures path { result.path.now ≡ path.entry.now }
@@ -38,6 +40,7 @@ impl<'f, 'p, F: Files> PartSource<'f, 'p, F> {
             files,
             path,
             other,
+            parts,
             at: 0,
             last: 0,
             before,
@@ -75,7 +78,7 @@ impl<F: Files> Source for PartSource<'_, '_, F> {
         ensures kept { kept_of self.new.before (F.failed self.new.files.now) (F.holds self.new.files.now) self.new.path.now self.new.other.now
             ≡ kept_of self.old.before (F.failed self.old.files.now) (F.holds self.old.files.now) self.old.path.now self.old.other.now }
     {
-        match self.files.part(self.path, self.at, into) {
+        match self.files.part(self.path, self.parts, self.at, into) {
             Ok(count) => {
                 self.at += count as u64;
                 self.last = count;

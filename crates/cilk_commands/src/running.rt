@@ -13,7 +13,7 @@ ghost use Rattle.cilk_commands.specs.declared.streams.TheConstants.{MAX_READ};
 ghost use Rattle.cilk_messages.specs.Words.{origin_view};
 
 use crate::counted::CountedRead;
-use crate::files::{FileFault, Files};
+use crate::files::{FileFault, Files, Parts};
 use crate::parts::PartSource;
 use crate::programs;
 use crate::reply::{Answer, Failure};
@@ -219,7 +219,7 @@ fn checked<'a, F: Files>(
     ensures failure { IfErr result (λ e. CheckShows path.entry.now (F.holds files.old path.entry.now) (F.failed files.old) (F.failed files.new)
         (meant program) input (failure_view e)) }
 {
-    let mut source = PartSource::new(files, path, path);
+    let mut source = PartSource::new(files, path, Parts::OfFile, path);
     match check_run(alloc, program, input, &mut source) {
         Ok(_accepted) => Ok(Answer::Accepted),
         Err(Unaccepted::Unread) => Err(Failure::Unreadable(path)),

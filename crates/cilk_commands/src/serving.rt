@@ -166,8 +166,8 @@ pub fn serve_and_tell<F: Files, R: CountedRead, O: Write, E: Write>(
 /// Serves the words after the program's own name: carries out their order, shows one reply, and
 /// returns the status.
 ///
-/// A failure of `err` changes nothing else. Standard input is read only if there are no words, in
-/// at most [`MAX_READ`](crate::streams::MAX_READ) reads.
+/// A failure of `err` changes nothing else. `input` is read only if there are no words, in at most
+/// [`MAX_READ`](crate::streams::MAX_READ) reads; the trace `-` is one of the files.
 pub fn serve<F: Files, R: CountedRead, O: Write, E: Write>(
     alloc: Global,
     words: &[&str],

@@ -43,7 +43,7 @@ Arguments:
   PROGRAM         a file with a program text, of at most 262,144 bytes
   CERTIFICATE     a certificate, such as `certify` writes, of at most 268,435,456 bytes
   SCRIPT          a file with a script, of at most 1,048,576 bytes (docs/SCRIPTS.md)
-  TRACE           a trace, as text or binary, of at most 268,435,456 bytes; a program made by recorder/cilkrec writes it
+  TRACE           a trace, as text or binary, or `-` for standard input; a program made by recorder/cilkrec writes it
 
 Options of settle, run, certify, check, threads, play, schedule and measure:
   --input FILE    the numbers for `input(k)`, at most 65,536, separated by blanks; without this option there are none
@@ -250,21 +250,24 @@ The answer is one of
                   where its view depends on the schedule
   refused 311 P Q or refused 312 P Q: the first race, by two lines of the trace; status 4
   trace 301 at L  on standard error: line L isn't one of a trace, or not there (302: the trace is cut off); status 2
-  changed TRACE   on standard error: it isn't the same in the second reading; status 2
 
 Arguments:
-  TRACE           a trace, as text or in the binary form (docs/TRACES.md), of at most 268,435,456 bytes
+  TRACE           a trace, as text or in the binary form (docs/TRACES.md), of any size: it is read once, so it may be a
+                  pipe, or `-` for standard input
 
 Options:
   --sites FILE    after a refusal, say on standard error at which files, lines and functions the accesses are, by the
                   table of sites in FILE
-  --explain       the same without a table, by lines of the trace; and why a text isn't a trace
+  --explain       the same without a table, by lines of the trace; and why a text isn't a trace. Of a pipe it has the
+                  numbers of lines alone
 HELP
 
 To record a run (recorder/README.md):
   recorder/cilkrec gcc -O2 prog.c -o prog
   CILK_TRACE=prog.trace CILK_SITES=prog.sites ./prog
-  cilk judge prog.trace --sites prog.sites";
+  cilk judge prog.trace --sites prog.sites
+To judge it beside the run, through a pipe:
+  mkfifo pipe; CILK_TRACE=pipe ./prog & cilk judge pipe";
 
 /// Lines of several pages, each after its word.
 const SHARED: &str = "\

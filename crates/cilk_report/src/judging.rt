@@ -10,6 +10,7 @@ use crate::again::seek;
 use crate::colors::colored;
 use crate::explaining::race_of;
 use cilk_checker::refusal::Refusal;
+use cilk_commands::files::Parts;
 use cilk_commands::reply::Failure;
 use cilk_findings::fault::CaseFault;
 use cilk_messages::numbered::LineAt;
@@ -47,6 +48,9 @@ const NOT_ALIVE: &str =
 
 const BEHIND: &str = "nothing may follow the line `end`";
 
+const SPENT: &str =
+    "hint: this trace can't be read again to show its lines, as what comes by a pipe: write it to a file, and judge that\n";
+
 const CUT_OFF: &str =
     "reason: a whole trace ends with the line `end`: the program crashed or was killed, or still runs, or a part of the file is missing\n\
     hint: a trace that is cut off decides nothing: record the run again, to its end\n";
@@ -58,7 +62,8 @@ pub struct Judged<'a> {
     pub sites: Option<&'a str>,
 }
 
-/// Returns the explanation of a race of a trace. The trace and the table of sites are read for it.
+/// Returns the explanation of a race of a trace. The trace and the table of sites are read for it. A
+/// trace that can't be read again has the numbers of its lines alone.
 pub fn of_trace_race<F: Keeps>(
     alloc: Global,
     judged: Judged<'_>,
@@ -68,10 +73,28 @@ pub fn of_trace_race<F: Keeps>(
     let mut text = String::new(alloc);
     if let Some((earlier, later)) = race_of(refusal) {
         let mut found = Accesses::new(alloc, earlier, later);
-        seek(judged.trace, files, &mut found)?;
-        push_accesses(alloc, &mut text, judged, refusal, &found, files)?;
+        if seek(judged.trace, Parts::OfStream, files, &mut found)? {
+            push_accesses(alloc, &mut text, judged, refusal, &found, files)?;
+        } else {
+            text = spent_race(alloc, judged.trace, refusal)?;
+        }
     }
     Ok(colored(alloc, text, files.kept())?)
+}
+
+// The explanation of a race of a trace that can't be read again.
+fn spent_race(alloc: Global, trace: &str, refusal: Refusal) -> Result<String, AllocError> {
+    match refusal {
+        Refusal::ViewRace { created, used } => format!(in alloc;
+            "{trace}:{used}:1: error 312: a view-read race: the view is read here\n\
+            {trace}:{created}:1: note: earlier in the serial run the reducer is created here\n{SPENT}"
+        ),
+        Refusal::Race { earlier, later } => format!(in alloc;
+            "{trace}:{later}:1: error 311: a determinacy race: the later access\n\
+            {trace}:{earlier}:1: note: earlier in the serial run the other access\n{SPENT}"
+        ),
+        _ => Ok(String::new(alloc)),
+    }
 }
 
 // Adds the explanation of the accesses that were found. One without a table that can be read has the
@@ -92,17 +115,14 @@ fn push_accesses<F: Keeps>(
         None => second.site,
     };
     let mut sites = Sites::new(alloc, [first.site, second.site, call]);
-    let sought = match judged.sites {
-        Some(path) => seek(path, files, &mut sites),
-        None => Ok(()),
+    let is_read = match judged.sites {
+        Some(path) => seek(path, Parts::OfFile, files, &mut sites)?,
+        None => true,
     };
-    if matches!(sought, Err(CaseFault::Memory)) {
-        return sought;
-    }
     let raced = Raced {
         trace: judged.trace,
         table: judged.sites,
-        lacks: sought.is_err(),
+        lacks: !is_read,
         sites: &sites,
         is_of_view: !matches!(refusal, Refusal::Race { .. }),
         first: first.access(),
@@ -139,7 +159,7 @@ fn failure_text<F: Keeps>(
             "{trace}:{line}:1: error {number}: the trace is cut off here\n{CUT_OFF}"
         )?),
         Failure::Unreadable(_) => Ok(format!(in alloc;
-            "hint: is `{trace}` a file that can be read, of at most 268,435,456 bytes? It is read in parts, so it can't be a pipe\n"
+            "hint: is `{trace}` a file that can be read? `-` stands for standard input\n"
         )?),
         _ => Ok(String::new(alloc)),
     }
@@ -153,12 +173,14 @@ fn of_malformed<F: Keeps>(
     files: &mut F,
 ) -> Result<String, CaseFault> {
     let mut found = LineAt::new(alloc, 1);
-    seek(trace, files, &mut found)?;
+    if !seek(trace, Parts::OfStream, files, &mut found)? {
+        return Ok(format!(in alloc; "{trace}:{number}:1{MALFORMED}{SPENT}")?);
+    }
     if found.is(BINARY_HEADER) {
         return Ok(format!(in alloc; "{trace}:{number}:1{MALFORMED}{BINARY}")?);
     }
     found = LineAt::new(alloc, number);
-    seek(trace, files, &mut found)?;
+    seek(trace, Parts::OfStream, files, &mut found)?;
     let text = found.text(alloc)?;
     Ok(of_text(alloc, trace, number, text.as_str())?)
 }

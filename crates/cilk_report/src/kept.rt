@@ -2,10 +2,10 @@
 
 ghost use Rattle.std.specs.Prelude.{◌≡◌, ◌+◌, ◌<◌, ◌≤◌, ℕ, [], Err, IfErr, IfOk, IsFalse, IsTrue, List, OnOk, Some, length};
 ghost use Rattle.cilk_commands.specs.Files.{EndsAt, IsHeld, IsPart, StayOrRise};
-ghost use Rattle.cilk_commands.specs.declared.disk.TheConstants.{MAX_FILE};
+ghost use Rattle.cilk_commands.specs.declared.disk.TheConstants.{MAX_FILE, MAX_STREAM};
 ghost use Rattle.cilk_findings.specs.Keeping.{AddsCopy, KeepsCopies, copies_in};
 
-use cilk_commands::files::{FileFault, Files};
+use cilk_commands::files::{FileFault, Files, Parts};
 use cilk_profile::Kept;
 use std::alloc::Global;
 
@@ -72,10 +72,17 @@ impl<F: Files> Files for KeptFiles<F> {
         }
     }
 
-    fn part(&mut self, path: &str, at: u64, into: &mut [u8]) -> Result<usize, FileFault>
+    fn part(
+        &mut self,
+        path: &str,
+        parts: Parts,
+        at: u64,
+        into: &mut [u8],
+    ) -> Result<usize, FileFault>
         requires { (F.failed self.old.files).count < 18446744073709551615 }
         ensures within { IfOk result (λ n. n ≤ length into.old) }
-        ensures small { IfOk result (λ n. at + n ≤ MAX_FILE) }
+        ensures small { IfOk result (λ n. at + n ≤ MAX_STREAM) }
+        ensures limited { parts ≡ Parts.OfFile → IfOk result (λ n. at + n ≤ MAX_FILE) }
         ensures held { IfOk result (λ n. IsPart (F.holds self.old.files path.now) at n into.new) }
         ensures last { IfOk result (λ n. n ≡ 0 → 0 < length into.old → EndsAt (F.holds self.old.files path.now) at) }
         ensures counted { result ≡ Err FileFault.Device → (F.failed self.old.files).count < (F.failed self.new.files).count }
@@ -88,7 +95,7 @@ impl<F: Files> Files for KeptFiles<F> {
         ensures keeps { self.new.keeps ≡ self.old.keeps }
         ensures copied { KeepsCopies self.old.kept self.new.kept }
     {
-        match self.files.part(path, at, into) {
+        match self.files.part(path, parts, at, into) {
             Ok(count) => {
                 if self.keeps {
                     self.kept.add_part(at, &into[..count]);

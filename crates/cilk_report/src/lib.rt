@@ -8,8 +8,9 @@
 //! sites. An explanation is derived from the texts themselves, by a second serial run where that is
 //! needed (`cilk_findings`, `cilk_races`). [`KeptFiles`] therefore keeps the texts as they were
 //! read, and the first bytes of a certificate. So the explanation is about the texts that were
-//! judged. A trace isn't kept, since it may be larger than memory: its file is read again. A command
-//! line of `serve` without an explanation keeps no copies.
+//! judged. A trace isn't kept, since it may be larger than memory: its file is read again, and one that
+//! came by a pipe has the numbers of its lines alone. A command line of `serve` without an explanation
+//! keeps no copies.
 //!
 //! `measure` prints what a run costs; `--trace` of `play` adds what each worker does
 //! (`cilk_profile`), and `--why LINE` of `settle` what orders the accesses of a line (`cilk_races`).

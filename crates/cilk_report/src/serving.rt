@@ -38,8 +38,8 @@ use std::io::Write;
 /// [`cilk_commands::serve`] are served as that function does. With `--explain` an explanation
 /// follows the same reply; it follows that of `settle`, and that of `judge` with a table of sites,
 /// in any case. `measure`, `schedule`, `settle` for several programs or in a short form, and
-/// questions about the tool are answered as well. Standard input is read only if there are no words
-/// but those that add a text.
+/// questions about the tool are answered as well. `input` is read only if there are no words but those
+/// that add a text.
 #[tactic(auto, using(cilk_commands::proofs::Reading::takes_same))]
 pub fn serve_explained<F: Keeps, R: CountedRead, O: Write, E: Write>(
     alloc: Global,

@@ -2,8 +2,8 @@
 
 ghost use Rattle.std.specs.Prelude.{◌≡◌, ◌<◌, IfErr, OnOk};
 
-use cilk_commands::disk::MAX_FILE;
-use cilk_commands::files::{FileFault, Files};
+use cilk_commands::disk::{MAX_FILE, STANDARD};
+use cilk_commands::files::{FileFault, Files, Parts};
 use std::alloc::Global;
 
 #[derive(Drop)]
@@ -31,11 +31,14 @@ fn found<'a>(files: &'a [File], name: &str) -> Option<&'a [u8]> {
     bytes
 }
 
-/// The files of a case, as the tool reads them. An unknown path counts as a failure, and so does each
-/// read once none is left. The byte from which the last of these was to read is noted.
+/// The files of a case, as the tool reads them, and standard input, which is the file `stdin` and gives
+/// its bytes once. An unknown path counts as a failure, and so does each read once none is left. The
+/// byte from which the last of these was to read is noted.
 #[derive(Drop)]
 pub struct Folder<'a> {
     files: &'a [File],
+    // The number of bytes of standard input that were read.
+    taken: u64,
     left: u64,
     pub reads: u64,
     failures: u64,
@@ -49,6 +52,7 @@ impl<'a> Folder<'a> {
     {
         Folder {
             files,
+            taken: 0,
             left,
             reads: 0,
             failures: 0,
@@ -64,8 +68,38 @@ impl<'a> Folder<'a> {
         ensures begun { IfErr result (λ _. self.new.failed_at ≡ at) }
         ensures uncounted { OnOk result ((self.new.failures ≡ self.old.failures) × (self.new.failed_at ≡ self.old.failed_at)) }
     {
+        self.give(found(self.files, path), at)
+    }
+
+    /// Returns the text of standard input, to be read from a byte on, where what was read of it ends.
+    fn standard(&mut self, at: u64) -> Result<&'a [u8], FileFault>
+        requires { self.old.failures < 18446744073709551615 }
+        ensures device { IfErr result (λ fault. fault ≡ FileFault.Device) }
+        ensures counted { IfErr result (λ _. self.old.failures < self.new.failures) }
+        ensures begun { IfErr result (λ _. self.new.failed_at ≡ at) }
+        ensures uncounted { OnOk result ((self.new.failures ≡ self.old.failures) × (self.new.failed_at ≡ self.old.failed_at)) }
+    {
+        let is_next = at == self.taken;
+        self.give(
+            if is_next {
+                Some(bytes_of(self.files, "stdin"))
+            } else {
+                None
+            },
+            at,
+        )
+    }
+
+    /// Counts a read from a byte on, and returns the text where there is one and a read is left.
+    fn give(&mut self, text: Option<&'a [u8]>, at: u64) -> Result<&'a [u8], FileFault>
+        requires { self.old.failures < 18446744073709551615 }
+        ensures device { IfErr result (λ fault. fault ≡ FileFault.Device) }
+        ensures counted { IfErr result (λ _. self.old.failures < self.new.failures) }
+        ensures begun { IfErr result (λ _. self.new.failed_at ≡ at) }
+        ensures uncounted { OnOk result ((self.new.failures ≡ self.old.failures) × (self.new.failed_at ≡ self.old.failed_at)) }
+    {
         self.reads = self.reads.saturating_add(1);
-        match found(self.files, path) {
+        match text {
             Some(bytes) if self.left > 0 => {
                 self.left -= 1;
                 Ok(bytes)
@@ -76,6 +110,14 @@ impl<'a> Folder<'a> {
                 Err(FileFault::Device)
             }
         }
+    }
+}
+
+/// Whether a path read in such parts is standard input.
+fn is_standard(path: &str, parts: Parts) -> bool {
+    match parts {
+        Parts::OfFile => false,
+        Parts::OfStream => path == STANDARD,
     }
 }
 
@@ -91,8 +133,19 @@ impl Files for Folder<'_> {
         Ok(self.text(path, 0)?.to_vec(alloc)?)
     }
 
-    fn part(&mut self, path: &str, at: u64, into: &mut [u8]) -> Result<usize, FileFault> {
-        let whole = self.text(path, at)?;
+    fn part(
+        &mut self,
+        path: &str,
+        parts: Parts,
+        at: u64,
+        into: &mut [u8],
+    ) -> Result<usize, FileFault> {
+        let is_standard = is_standard(path, parts);
+        let whole = if is_standard {
+            self.standard(at)?
+        } else {
+            self.text(path, at)?
+        };
         if at > MAX_FILE {
             self.failures += 1;
             self.failed_at = at;
@@ -102,6 +155,9 @@ impl Files for Folder<'_> {
         let room = (MAX_FILE - at) as usize;
         let count = rest.len().min(into.len()).min(room);
         into[..count].copy_from_slice(&rest[..count]);
+        if is_standard {
+            self.taken = at + count as u64;
+        }
         Ok(count)
     }
 

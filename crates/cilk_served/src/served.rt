@@ -5,7 +5,7 @@ ghost use Rattle.cilk_served.specs.Folders.{elsewhere_in, failures_in, held_in};
 ghost use Rattle.cilk_commands.specs.declared.disk.TheConstants.{MAX_FILE};
 
 use cilk_commands::disk::MAX_FILE;
-use cilk_commands::files::{FileFault, Files};
+use cilk_commands::files::{FileFault, Files, Parts};
 use cilk_commands::{CountedReader, Served, serve, serve_and_tell};
 use std::alloc::Global;
 use std::io;
@@ -117,7 +117,13 @@ impl Files for Folder<'_> {
         }
     }
 
-    fn part(&mut self, path: &str, at: u64, into: &mut [u8]) -> Result<usize, FileFault> {
+    fn part(
+        &mut self,
+        path: &str,
+        _parts: Parts,
+        at: u64,
+        into: &mut [u8],
+    ) -> Result<usize, FileFault> {
         let whole = match self.text(path) {
             Some(text) if at <= MAX_FILE && self.parts > 0 => text,
             _ => return Err(self.fail(path, at)),

@@ -15,7 +15,7 @@ use crate::since::{Moment, PartsSince};
 use cilk_checker::accepted::Accepted;
 use cilk_checker::check::check_run;
 use cilk_checker::refusal::Unaccepted;
-use cilk_commands::files::Files;
+use cilk_commands::files::{Files, Parts};
 use cilk_commands::parts::PartSource;
 use cilk_commands::reply::{Answer, Failure};
 use cilk_commands::{CountedRead, given, input as judge_input, names, read_file, refused};
@@ -79,7 +79,7 @@ fn checked<'a, F: Files, M: Moment>(
         (F.holds files.old paths.entry.other.now) (F.holds files.new paths.entry.other.now)) }
 {
     let mut source: PartsSince<'_, '_, F, M> = PartsSince {
-        parts: PartSource::new(files, paths.path, paths.other),
+        parts: PartSource::new(files, paths.path, Parts::OfFile, paths.other),
         moment: PhantomData,
     };
     match check_run(alloc, program, input, &mut source) {
