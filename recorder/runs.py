@@ -2,7 +2,7 @@
 
 The program's streams and its status are its own. The answer comes last, on standard error: what the judge says, and for
 each race both accesses with their calls, and whose memory it is. The status is the program's, or the judge's where that
-is 0.
+is 0. The judge reads the trace by a pipe, beside the program; a copy is kept for further questions.
 
 Further races are those that the judge finds when the accesses of a known one are left out of the trace: each is a race
 of the same run; there may be others. Calls and memory come from a second run, whose output goes nowhere, and whose input
@@ -25,6 +25,7 @@ import stat
 import subprocess
 import sys
 import tempfile
+import threading
 import time
 
 import cilktrace
@@ -46,6 +47,11 @@ class Fault(Exception):
 def without_random_addresses():
     """In the child, before the program begins."""
     ctypes.CDLL(None).personality(0x0040000)
+
+
+def without_interrupts():
+    """In the judge, which reads to the trace's end, before it begins."""
+    signal.signal(signal.SIGINT, signal.SIG_IGN)
 
 
 class Places:
@@ -112,7 +118,7 @@ class Run:
     def __init__(self, words, work, judge):
         self.words, self.work, self.judge = words, work, judge
         self.trace, self.sites, self.calls, self.pages = (os.path.join(work, n) for n in ("trace", "sites", "calls", "pages"))
-        self.look = os.path.join(work, "look")
+        self.look, self.copy = os.path.join(work, "look"), os.path.join(work, "copy")
         # The same in both runs, so that the stack begins at one place.
         self.env = dict(os.environ, CILK_TRACE=self.trace, CILK_TRACE_FORM="binary", CILK_SITES=self.sites,
                         CILK_CALLS=self.calls, CILK_PAGES=self.pages, CILK_TRACE_LOOK=self.look)
@@ -131,7 +137,18 @@ class Run:
             return False
 
     def record(self):
-        """Makes the first run, and keeps its status as the shell has it."""
+        """Makes the first run with the judge beside it, and keeps its status as the shell has it. The judge: a finished process."""
+        os.mkfifo(self.trace)
+        source = os.open(self.trace, os.O_RDONLY | os.O_NONBLOCK)
+        writer = os.open(self.trace, os.O_WRONLY)  # so that there is one until the program's end
+        os.set_blocking(source, True)
+        try:
+            judge = subprocess.Popen([*self.judge, "/dev/stdin"], stdin=subprocess.PIPE, stdout=subprocess.PIPE,
+                                     stderr=subprocess.PIPE, text=True, errors="replace", preexec_fn=without_interrupts)
+        except OSError as e:
+            raise Fault(f"{self.judge[0]}: {e.strerror}") from None
+        copier = threading.Thread(target=self.pass_on, args=(source, judge.stdin.fileno()))
+        copier.start()
         try:
             with subprocess.Popen(self.words, env=self.env, preexec_fn=without_random_addresses) as program:
                 keep = signal.signal(signal.SIGINT, signal.SIG_IGN)
@@ -139,9 +156,26 @@ class Run:
                 signal.signal(signal.SIGINT, keep)
         except OSError as e:
             raise Fault(f"{self.words[0]}: {e.strerror}") from None
-        if not os.path.exists(self.trace):
+        finally:
+            os.close(writer)
+            copier.join()
+            out, err = judge.communicate()
+        if not os.path.getsize(self.copy):
             raise Fault(f"{self.words[0]} left no trace: was it compiled by cilkrec?")
         self.status = status if status >= 0 else 128 - status
+        return subprocess.CompletedProcess(self.judge, judge.returncode, out, err)
+
+    def pass_on(self, source, judge):
+        """Copies the trace, and passes it on to the judge as long as that reads."""
+        reads = True
+        with open(source, "rb", buffering=0) as trace, open(self.copy, "wb", buffering=0) as copy:
+            while part := trace.read(1 << 20):
+                copy.write(part)
+                while reads and part:
+                    try:
+                        part = part[os.write(judge, part) :]
+                    except OSError:
+                        reads = False
 
     def asked(self, trace, *options):
         """What the judge says of a trace: a finished process."""
@@ -213,7 +247,7 @@ class Races:
     def find(self, positions):
         """The race at these positions, and what is found when of each race the later accesses are left out, or the earlier
         ones: first all of a site, then those of one strand."""
-        first = self.run.trace, positions
+        first = self.run.copy, positions
         for word in ("{1.site}", "{0.site}", "{1.site}@{1.segment}"):
             race, without = first, frozenset()
             while race and len(self.found) < MOST_RACES:
@@ -230,7 +264,7 @@ class Races:
             return None
         self.count += 1
         out = os.path.join(self.run.work, f"trace.{self.count}")
-        words = [self.parts, self.run.trace, "without", out, *without]
+        words = [self.parts, self.run.copy, "without", out, *without]
         if subprocess.run(words, check=False).returncode:
             return None
         answer = re.match(r"(?:refused 311|race) (\d+) (\d+)\b", self.run.asked(out).stdout)
@@ -407,10 +441,10 @@ def unseen_calls(run):
     """What the trace of a run says that it lacks: [(position, name, file, line)]."""
     parts, found = tool(run.work), []
     if parts:
-        done = subprocess.run([parts, run.trace, "unseen"], capture_output=True, text=True, check=False)
+        done = subprocess.run([parts, run.copy, "unseen"], capture_output=True, text=True, check=False)
         found = [tuple(map(int, line.split())) for line in done.stdout.split("\n")[:-1]]
     else:
-        with open(run.trace, "rb") as f:
+        with open(run.copy, "rb") as f:
             found = [(k, event[1]) for k, event in enumerate(cilktrace.events(f), 2) if event[0] == "unseen"]
     sites, calls = read_sites(run.sites), []
     for position, site in found:
@@ -449,8 +483,7 @@ def main(words):
     judge = shlex.split(os.environ.get("CILKREC_JUDGE", "")) or [os.path.join(os.path.dirname(HERE), "cilk"), "judge"]
     with tempfile.TemporaryDirectory(prefix="cilkrec-") as work:
         run = Run(words, work, judge)
-        run.record()
-        judged = run.asked(run.trace)
+        judged = run.record()
         answer = judged.stdout.split("\n")[0].strip()
         calls = unseen_calls(run) if re.match("race-free,|race |refused", answer) else []
         tables, is_other = find_races(run, answer, "--once" in options)
