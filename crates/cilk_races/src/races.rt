@@ -85,13 +85,13 @@ pub fn script_of_race(
 
 fn schedule_of(scene: &Scene<'_>, race: Race) -> Result<Shown, AllocError> {
     match pair_of(scene, race)? {
-        Some(pair) => shown(scene, &pair),
+        Some(pair) => schedule_for(scene, &pair),
         None => Ok(Shown::Played(None)),
     }
 }
 
 // The schedule that shows a race, or the one that is to be played.
-fn shown(scene: &Scene<'_>, pair: &Pair) -> Result<Shown, AllocError> {
+fn schedule_for(scene: &Scene<'_>, pair: &Pair) -> Result<Shown, AllocError> {
     match only_one(scene, pair) {
         Some(found) => Ok(Shown::Due(found)),
         None => Ok(Shown::Played(search(scene, pair)?)),
@@ -121,7 +121,7 @@ fn report_on(scene: &Scene<'_>, race: Race) -> Result<Report, AllocError> {
     let mut schedule = Shown::Played(None);
     if let Some(pair) = pair {
         push_pair(scene, report, &pair)?;
-        schedule = shown(scene, &pair)?;
+        schedule = schedule_for(scene, &pair)?;
     }
     let mut further = String::new(scene.case.alloc);
     if race.is_of_cell() {
