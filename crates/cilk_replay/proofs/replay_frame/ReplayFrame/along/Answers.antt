@@ -1,4 +1,4 @@
-use Rattle.std.proofs.Common.{◌≡◌, ◌-◌, ℕ, length, refl, sym, ap, ◌∙◌, subst, arith}
+use Rattle.std.proofs.Common.{◌-◌, length, refl, sym, ap, ◌∙◌, subst, arith}
 use Rattle.cilk_types.specs.declared.limits.TheConstants.{MAX_TICKS}
 use Rattle.cilk_shared.specs.Pieces.{PieceValue}
 use Rattle.cilk_replay.specs.Standing.{Stand}
@@ -10,16 +10,17 @@ use Rattle.cilk_replay.proofs.replay_frame.ReplayFrame.along.Goals as goal
 pub granted-requires-clause-stands : goal.granted-requires-clause-stands
 granted-requires-clause-stands g c = (c.args.self.now, c.requires.stands.0, refl, c.requires.stands.1)
 
+pub returns-in_default-clause-stands : goal.returns-in_default-clause-stands
+returns-in_default-clause-stands g c = λ below S. subst (λ (q : PieceValue). Stand c.args.replay.now q.upto c.args.asked.now c.args.self.now below) (sym c.in_default.ensures.made) S
+
 pub overflow_sub-left : goal.overflow_sub-left
 overflow_sub-left g c = let p = c.args.piece.now in small c.args.replay.now p.upto c.args.asked.now c.args.self.now c.requires.stands.0 c.requires.stands.1
 
 pub each-init : goal.each-init
 each-init g c =
-    let u = c.args.replay.now in
     let l = c.args.self.now in
     let p = c.args.piece.now in
-    let k = c.args.asked.now in
-    let few = small u p.upto k l c.requires.stands.0 c.requires.stands.1 in
+    let few = small c.args.replay.now p.upto c.args.asked.now l c.requires.stands.0 c.requires.stands.1 in
     let same = as_it_was l c.replace-cursor.result (MAX_TICKS - l.took) few c.replace-cursor.ensures.value refl in
     record {
       few = omega arith;
@@ -28,7 +29,7 @@ each-init g c =
         at = p.upto;
         place = c.in-Some.ensures.made.1;
         answered = c.in-Some.ensures.made.0;
-        stands = λ below S. subst (λ (z : ReplayFrame). Stand u p.upto k z below) (sym same) S;
+        stands = λ below S. subst (λ (z : ReplayFrame). Stand c.args.replay.now p.upto c.args.asked.now z below) (sym same) S;
       };
       reached = c.granted.ensures.reached;
     }
@@ -38,26 +39,25 @@ step_on-requires-clause-runs g c =
     let p = c.args.piece.now in
     let now = c.each.piece in
     let l = c.args.self.now in
-    runs c.args.replay.now p.upto c.args.asked.now l now.upto c.each.asked (frame_of c.each.cursor c.each.left l.sight) c.each.answer c.each.invariant.between c.requires.stands.0 c.requires.stands.1
+    runs c.args.replay.now p.upto c.args.asked.now l now.upto c.each.asked c.each.cursor c.each.left l.sight c.each.answer c.each.invariant.between c.requires.stands.0 c.requires.stands.1
 
 pub step_on-requires-clause-fits : goal.step_on-requires-clause-fits
 step_on-requires-clause-fits g c =
     let p = c.args.piece.now in
     let now = c.each.piece in
     let l = c.args.self.now in
-    fits c.args.replay.now p.upto c.args.asked.now l now.upto c.each.asked (frame_of c.each.cursor c.each.left l.sight) c.each.answer c.each.invariant.between c.requires.stands.0 c.requires.stands.1
+    fits c.args.replay.now p.upto c.args.asked.now l now.upto c.each.asked c.each.cursor c.each.left l.sight c.each.answer c.each.invariant.between c.requires.stands.0 c.requires.stands.1
 
 pub granted-requires-in-each-clause-stands : goal.granted-requires-in-each-clause-stands
 granted-requires-in-each-clause-stands g c =
     let p = c.args.piece.now in
     let now = c.each.piece in
-    let l = c.args.self.now in
-    let after = frame_of c.step_on.new.cursor c.step_on.new.left l.sight in (
-      after,
+    let l = c.args.self.now in (
+      frame_of c.step_on.new.cursor c.step_on.new.left l.sight,
       c.requires.stands.0,
       sym c.each.invariant.sight,
-      continued c.args.replay.now p.upto c.args.asked.now l now.upto c.each.asked (frame_of c.each.cursor c.each.left l.sight) c.each.answer c.each.invariant.between c.step_on.new.asked after refl
-          (λ q callee history stands. c.step_on.ensures.asks q callee history l.sight stands) c.requires.stands.0 c.requires.stands.1,
+      continued c.args.replay.now p.upto c.args.asked.now l now.upto c.each.asked c.each.cursor c.each.left l.sight c.each.answer c.each.invariant.between c.step_on.new.asked c.step_on.new.cursor c.step_on.new.left c.step_on.ensures.asks c.requires.stands.0
+          c.requires.stands.1,
     )
 
 pub each-preserved : goal.each-preserved
@@ -65,7 +65,6 @@ each-preserved g c =
     let p = c.args.piece.now in
     let now = c.each.piece in
     let l = c.args.self.now in
-    let after = frame_of c.step_on.new.cursor c.step_on.new.left l.sight in
     record {
       few = c.step_on.ensures.few;
       sight = c.each.invariant.sight;
@@ -73,8 +72,7 @@ each-preserved g c =
         at = now.upto;
         place = c.in-Some-granted.ensures.made.1;
         answered = c.in-Some-granted.ensures.made.0;
-        stands = continued c.args.replay.now p.upto c.args.asked.now l now.upto c.each.asked (frame_of c.each.cursor c.each.left l.sight) c.each.answer c.each.invariant.between c.step_on.new.asked after refl
-            (λ q callee history stands. c.step_on.ensures.asks q callee history l.sight stands);
+        stands = continued c.args.replay.now p.upto c.args.asked.now l now.upto c.each.asked c.each.cursor c.each.left l.sight c.each.answer c.each.invariant.between c.step_on.new.asked c.step_on.new.cursor c.step_on.new.left c.step_on.ensures.asks;
       };
       reached = λ first h. c.granted-in-each.ensures.reached first (c.each.invariant.reached first h);
     }
@@ -90,18 +88,10 @@ each-smaller g c =
 
 pub returns-in-None-clause-stands : goal.returns-in-None-clause-stands
 returns-in-None-clause-stands g c = λ below S.
-    let u = c.args.replay.now in
     let p = c.args.piece.now in
     let now = c.each.piece in
     let l = c.args.self.now in
-    let after = frame_of c.step_on.new.cursor c.step_on.new.left l.sight in
-    let stays = c.in-None.ensures.made in
-    let same : after ≡ c.put_back.new.self = ap (frame_of c.step_on.new.cursor c.step_on.new.left) (sym c.each.invariant.sight) ∙ sym c.put_back.ensures in
-    subst (λ (n : ℕ). Stand u n c.step_on.new.asked c.put_back.new.self below) (ap (λ (q : PieceValue). q.upto) (sym stays))
-    (subst (λ (z : ReplayFrame). Stand u now.upto c.step_on.new.asked z below) same
-    (continued u p.upto c.args.asked.now l now.upto c.each.asked (frame_of c.each.cursor c.each.left l.sight) c.each.answer c.each.invariant.between c.step_on.new.asked after refl
-    (λ q callee history stands. c.step_on.ensures.asks q callee history l.sight stands) below S))
-
-pub returns-in_default-clause-stands : goal.returns-in_default-clause-stands
-returns-in_default-clause-stands g c = λ below S. let p = c.args.piece.now in
-    subst (λ (q : PieceValue). Stand c.args.replay.now q.upto c.args.asked.now c.args.self.now below) (sym c.in_default.ensures.made) S
+    let same = ap (frame_of c.step_on.new.cursor c.step_on.new.left) (sym c.each.invariant.sight) ∙ sym c.put_back.ensures in
+    subst (λ (q : PieceValue). Stand c.args.replay.now q.upto c.step_on.new.asked c.put_back.new.self below) (sym c.in-None.ensures.made)
+    (subst (λ (z : ReplayFrame). Stand c.args.replay.now now.upto c.step_on.new.asked z below) same
+    (continued c.args.replay.now p.upto c.args.asked.now l now.upto c.each.asked c.each.cursor c.each.left l.sight c.each.answer c.each.invariant.between c.step_on.new.asked c.step_on.new.cursor c.step_on.new.left c.step_on.ensures.asks below S))
