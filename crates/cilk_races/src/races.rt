@@ -27,7 +27,13 @@ pub fn of_race(
         mut text,
         schedule,
         further,
-    } = report_of(&Scene { case, run: &run }, Race::of(number, earlier, later))?;
+    } = report_of(
+        &Scene {
+            case: &*case,
+            run: &run,
+        },
+        Race::of(number, earlier, later),
+    )?;
     if let Some(found) = found_of(case, run, schedule)? {
         found.push(case, &mut text)?;
     }
@@ -76,7 +82,13 @@ pub fn script_of_race(
     later: u64,
 ) -> Result<Option<String>, CaseFault> {
     let run = Run::of(case)?;
-    let schedule = schedule_of(&Scene { case, run: &run }, Race::of(number, earlier, later))?;
+    let schedule = schedule_of(
+        &Scene {
+            case: &*case,
+            run: &run,
+        },
+        Race::of(number, earlier, later),
+    )?;
     match found_of(case, run, schedule)? {
         Some(found) => Ok(Some(found.script(case)?)),
         None => Ok(None),
