@@ -58,7 +58,7 @@ class Marker:
     """One text: its tokens, the partner of each bracket, and the edits that were found."""
 
     def __init__(self, text, clang, cxx):
-        self.text, self.clang, self.cxx, self.edits, self.returns = text, clang, cxx, [], {}
+        self.text, self.clang, self.cxx, self.edits, self.returns, self.syncs = text, clang, cxx, [], {}, {}
         self.inlined = set(INLINED_NAME.findall(text)) if clang else set()
         self.tokens = [
             Token(m.lastgroup if m.lastgroup != "fence" else "text", m.group(), m.start(), m.end())
@@ -81,8 +81,8 @@ class Marker:
                 partner[partner[i]] = i
             elif token.kind == "word" and WORDS.fullmatch(token.text):
                 outer[i] = list(stack)
-            elif token.kind == "word" and token.text == "return":
-                self.returns[i] = list(stack)
+            elif token.kind == "word" and token.text in ("return", "cilkrec_sync"):
+                (self.returns if token.text == "return" else self.syncs)[i] = list(stack)
         return partner, outer
 
     def fault(self, i, what):
@@ -346,6 +346,9 @@ class Marker:
         marks = {"cilk_spawn": self.mark_spawn, "cilk_scope": self.mark_scope, "cilk_reducer": self.mark_reducer}
         for i in self.outer:
             marks[self.tokens[i].text](i)
+        for i, outer in self.syncs.items():  # its frame would be another function's, whose children it doesn't wait for
+            if INLINED & set(self.head_of(self.body_of(outer) or 0)):
+                raise self.fault(i, "a function that syncs is always_inline: take that attribute away")
         if self.cxx or re.search(r"\bcleanup\b", self.text):
             self.mark_ends()
         out, done = [], 0
