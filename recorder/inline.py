@@ -33,7 +33,7 @@ def path(kind, size, k, tail):
         mask = (1 << size) - 1 << (8 if write else 0)
         out += ["\tmovl\t%edi, %ecx", "\tandl\t$7, %ecx", f"\tmovl\t${mask}, %esi", "\tshll\t%cl, %esi"]
         out += ["\torq\t$-65536, %rsi", "\ttestq\t%rsi, %rax", f"\tje\t.Lcr{k}d"]
-    out += [f".Lcr{k}s:", f"\tleaq\t.Lcr{k}r(%rip), %rsi", "\tcall\tcilkrec_slow"]
+    out += [f".Lcr{k}s:", f"\tleaq\t.Lcr{k}r(%rip), %rsi", f"\tcall\tcilkrec_{kind}{size}"]
     out += [f".Lcr{k}d:"] + (["\tret"] if tail else [])
     out += ["\t.pushsection .data.cilkrec,\"aw\"", "\t.balign 8", f".Lcr{k}r:"]
     return out + [f"\t.quad 0, 0, 0, 0, {size << 8 | write}, 0, 0", "\t.popsection"]

@@ -61,23 +61,24 @@ class Places:
         self.program, self.load_address, self.known, self.globals = program, load_address, {}, None
 
     def ask(self, sites):
-        """Learns the places of some sites: [(file, line, function)], inlined calls first."""
+        """Learns the places of some sites: [(file, line, function)] of each, inlined calls first."""
         new = [s for s in sites if s not in self.known]
         if not new:
             return
         text = "".join(f"{s:x}\n" for s in new)
-        done = subprocess.run(["addr2line", "-e", self.program, "-f", "-C"], input=text, capture_output=True, text=True,
-                              errors="replace", check=False)
-        lines = done.stdout.split("\n")
-        for k, site in enumerate(new):
-            function, place = (lines[2 * k : 2 * k + 2] + ["??", "??:0"])[:2]
-            file, line = (place.split(" (")[0].rsplit(":", 1) + ["0"])[:2]
-            self.known[site] = os.path.normpath(file), int(line) if line.isdigit() else 0, shortened(function)
+        done = subprocess.run(["addr2line", "-e", self.program, "-a", "-i", "-f", "-C"], input=text, capture_output=True,
+                              text=True, errors="replace", check=False)
+        parts = [part.split("\n")[1:] for part in re.split(r"^(?=0x)", done.stdout, flags=re.M)[1:]]
+        for site, lines in zip(new, parts + [[]] * len(new)):
+            self.known[site] = []
+            for function, place in zip(lines[::2] or ["??"], lines[1::2] or ["??:0"]):
+                file, line = (place.split(" (")[0].rsplit(":", 1) + ["0"])[:2]
+                self.known[site].append((os.path.normpath(file), int(line) if line.isdigit() else 0, shortened(function)))
 
     def stack(self, sites):
         """The program's own calls among some addresses, the innermost first."""
         self.ask(sites)
-        return [self.known[s] for s in sites if not OWN.search(self.known[s][0])]
+        return [row for s in sites for row in self.known[s] if not OWN.search(row[0])]
 
     def global_at(self, address):
         """(name, size, offset) of the variable with static storage at an address, or None."""
@@ -305,7 +306,7 @@ def whose(address, frames, block, places):
         if address < base + 16:
             places.ask([at])
             name = local_at(places.program, at, address - base - 16)
-            found = {"local": name, "function": places.known[at][2]}
+            found = {"local": name, "function": places.known[at][-1][2]}
             return found if frames[0][1] - 65536 < address else {}
     return {}
 
@@ -351,7 +352,7 @@ def calls_text(stack, how):
     """Lines of an access's calls."""
     lines, times = [], 1
     for k, (file, line, function) in enumerate(stack):
-        word = how if k == 0 else "  called"
+        word = "  called" if lines else how
         if k + 1 < len(stack) and LAMBDA.search(function) and stack[k + 1][:2] == (file, line):
             continue  # what g++ and clang++ make of a spawn's statement
         told = f"  {word} at {file}:{line}, in {function}"

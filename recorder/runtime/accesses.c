@@ -258,25 +258,47 @@ static __attribute__((noinline)) bool is_odd(uintptr_t address, const struct sit
     return true;
 }
 
-/* What the fast path (inline.py) doesn't leave out. */
-void cilkrec_slow(uintptr_t address, struct site *s)
+/* The first access, in its strand, of a place that doesn't lengthen its run upward. */
+static __attribute__((noinline)) void other_run(uintptr_t address, struct site *s, const void *return_address)
 {
-    unsigned size = (unsigned)s->what >> 8, offset = address & 7;
-
-    if (unlikely(cilkrec_special || offset + size > 8 || address - own_low < own_size)
-        && is_odd(address, s, RETURN_ADDRESS))
+    if (unlikely(address - own_low < own_size))
         return;
-    uint64_t *word = shadow(address), w = *word, m = (uint64_t)((1u << size) - 1) << offset, now = cilkrec_now;
-    if ((w ^ now) >> 16)
-        w = now & ~0xFFFFull;
-    *word = w | m | (s->what & WRITE ? m << 8 : 0);
-    if (address == s->to && address % 4096)
-        s->to += size;
-    else if (address + size == s->from && s->from % 4096)
+    if (address + (s->what >> 8) == s->from && s->from % 4096)
         lengthen_down(s, address);
     else
-        begin_run(s, address, RETURN_ADDRESS);
+        begin_run(s, address, return_address);
 }
+
+/* What the fast path (inline.py) doesn't leave out. */
+static inline void mark_and_keep(uintptr_t address, struct site *s, unsigned size, bool is_write, const void *return_address)
+{
+    uint64_t *word = shadow(address), w = *word, now = cilkrec_now;
+    uint64_t m = ((1u << size) - 1) * (is_write ? 257ull : 1) << (size < 8 ? address & 7 : 0);
+    if ((w ^ now) >> 16)
+        w = now & ~0xFFFFull;
+    *word = w | m;
+    if (likely(address == s->to && address % 4096))
+        s->to += size;
+    else
+        other_run(address, s, return_address);
+}
+static __attribute__((noinline)) void odd(uintptr_t address, struct site *s, const void *return_address)
+{
+    if (!is_odd(address, s, return_address))
+        mark_and_keep(address, s, (unsigned)s->what >> 8, s->what & WRITE, return_address);
+}
+static inline void slow(uintptr_t address, struct site *s, unsigned size, bool is_write, const void *return_address)
+{
+    if (unlikely(cilkrec_special || (address & (size - 1))))
+        odd(address, s, return_address);
+    else
+        mark_and_keep(address, s, size, is_write, return_address);
+}
+#define SLOW(SIZE) \
+    void cilkrec_read##SIZE(uintptr_t p, struct site *s) { slow(p, s, SIZE, false, RETURN_ADDRESS); } \
+    void cilkrec_write##SIZE(uintptr_t p, struct site *s) { slow(p, s, SIZE, true, RETURN_ADDRESS); }
+SLOW(1) SLOW(2) SLOW(4) SLOW(8)
+void cilkrec_slow(uintptr_t p, struct site *s) { slow(p, s, (unsigned)s->what >> 8, s->what & WRITE, RETURN_ADDRESS); }
 
 #define READ_HOOK(NAME, N) void NAME(void *p) { access_cells(READ, (uintptr_t)p, N, RETURN_ADDRESS); }
 #define WRITE_HOOK(NAME, N) void NAME(void *p) { access_cells(WRITE, (uintptr_t)p, N, RETURN_ADDRESS); }

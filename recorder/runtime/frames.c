@@ -192,6 +192,8 @@ void cilkrec_spawn_inside(void)
     begin_spawn(lambda[0], lambda[1] - 1, END_OF_FRAME(1), END_OF_FRAME(0))->shared_low = END_OF_FRAME(0);
 }
 
+void *cilkrec_same(void *function) { return function; }
+
 void cilkrec_spawn_end(void)
 {
     if (recording)
