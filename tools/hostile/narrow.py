@@ -22,8 +22,8 @@ EDGES = (
     + [999_999, 1_000_000, 1_000_001, 1_048_575, 1_048_576, 1_048_577, 2**24, 2**31 - 1, 2**31, 2**32 - 4097]
     + [2**32 - 4096, 2**32 - 2, 2**32 - 1, 2**32, 2**63 - 1, 2**63, 2**64 - 1, 2**64, 10**40]
 )
-MOST_EVENTS, MOST_FRAMES = 1_000_000, 65_536  # of a run
-OF_AN_EVENT, OF_A_FRAME = 180, 7_000  # bytes that a run may take where these are more than PEAK
+MOST_EVENTS, MOST_FRAMES, MOST_CELLS = 1_000_000, 65_536, 1_048_576  # of a run
+OF_AN_EVENT, OF_A_FRAME, OF_A_CELL = 180, 7_000, 60  # bytes that a run may take where these are more than PEAK
 MICROSECONDS = 12.0  # of a processor for an event, where these are more than SECONDS
 FREE, MALFORMED = rows.said("race-free"), Shown(4, b"refused 301 1\n", b"")
 
@@ -140,6 +140,32 @@ def line_feeds(room, found):
     feeds = room.put("feeds", b"begin 1\n" + b"\n" * 20_000_000)
     for words, peak in (([], 10_000), (["--helpers", "2"], 200_000)):
         bounded(room, found, f"line feeds {words}", one_of(MALFORMED), "check", program, feeds, *words, peak=peak)
+
+
+# A race whose other orders run for long: a chain of frames with reducers of all kinds, and long turns deep in frames.
+KINDS = {"a": "add", "b": "min", "c": "max", "d": "append", "e": "affine"}
+CHAIN = (
+    "int x; void s() { x = 1; } void f(int n, " + ", ".join(f"int cilk_reducer({kind}) {it}" for it, kind in KINDS.items())
+    + ") { if (n > 0) { cilk_spawn f(n - 1,a,b,c,d,e); " + "".join(f"update({it},n); " for it in KINDS) + "} } int main() { "
+    + "".join(f"int cilk_reducer({kind}) {it}; " for it, kind in KINDS.items())
+    + "cilk_spawn s(); int t = x; if (t == 0) f(50000,a,b,c,d,e); return 0; }"
+)  # fmt: skip
+TURNS = (
+    "int x; void g() { int z; for (int i = 0; i < 5; i++) z = 1; x = 1; z = 2; z = 3; } void f(int n) { if (n > 0) cilk_spawn f(n - 1); "
+    "else { int k = 0; int y; cilk_spawn g(); int t = x; while (t == 0 && k < 18000) { k = k + 1; if (" + "1+" * 249 + "1); } "
+    "for (int i = 0; i < 5; i++) y = 2; } } int main() { cilk_spawn f(17); return 0; }"
+)
+
+
+def long_orders(room, found):
+    """Races of short runs, of which other orders run for long: the search for a script that shows them is bounded."""
+    for text in (CHAIN, TURNS):
+        program = room.put("long.c", text)
+        raced = bounded(room, found, "a long order", is_answer, "settle", program)
+        found.must(raced.status == 4, "a race", raced)
+        made = room.put("long.cert", room.call("certify", program).out)
+        for words in (["check", program, made, "--explain"], ["schedule", program, made], ["settle", program, "--every"]):
+            bounded(room, found, f"a long order by {words[0]}", is_answer, *words)
 
 
 def number(chance):
@@ -302,6 +328,9 @@ def program_by_chance(chance):
         "".join(f"int cilk_reducer({kind}) r{k}; " for k in range(chance.choice((2, 20)))) + f"int main() {{ update(r1, {a}); return value(r0); }}",
         f"int main() {{ return input({a}) + input({b}) * input_count(); }}",
         f"int a[4]; int main() {{ cilk_for (int i = 0; i < input(0); i++) {{ a[i % 4] = input(1); }} return a[1]; }}",
+        f"int x; void s() {{ x = 1; }} void f(int n) {{ if (n > 0) {{ {spawn}f(n - 1); }} }}"
+        f" int main() {{ cilk_spawn s(); int t = x; if (t == 0) f({a}); return 0; }}",
+        f"int x; void s() {{ x = 1; }} int main() {{ int k = 0; cilk_spawn s(); int t = x; while (t == 0 && k < {a}) k++; return 0; }}",
     ))[:SMALL]  # fmt: skip
 
 
@@ -310,14 +339,15 @@ def inputs_by_chance(chance):
     return " ".join(str(chance.choice((1, -1)) * number(chance)) for _ in range(chance.choice((0, 1, 2, 60))))[:SMALL]
 
 
-def bounds_of(made):
+def bounds_of(made, text):
     """What a command may take of a run, by its sizes or its fault: any time where it goes to the limit of events or ticks."""
     told = re.match(rb"cilkcert 2\nsize (\d+) (\d+)|fault \d+ at (\d+)", made.out or made.err)
     events, frames = (int(told[1] or told[3]), int(told[2] or told[3])) if told else (0, 0)
     is_cut = made.err.startswith(b"fault 204 ")
     if is_cut:
         events = frames = MOST_EVENTS
-    taken = events * OF_AN_EVENT + min(frames, MOST_FRAMES) * OF_A_FRAME
+    cells = sum(int(it) for it in re.findall(r"int \w+\[(\d+)\]", text) if int(it) <= MOST_CELLS)
+    taken = events * OF_AN_EVENT + min(frames, MOST_FRAMES) * OF_A_FRAME + min(cells, MOST_CELLS) * OF_A_CELL
     return {"peak": max(PEAK, taken // 1000), "seconds": None if is_cut else max(SECONDS, events * MICROSECONDS / 1e6)}
 
 
@@ -333,12 +363,13 @@ def programs(room, found, seed, numbers):
     for_right, for_wrong = (forms.deal("programs", f"{seed} {numbers} {it}") for it in ("right", "wrong"))
     for k in numbers:
         chance, told = random.Random(f"great program {seed} {k}"), f"program {k} of seed {seed}"
-        names = {"P": room.put("p.c", program_by_chance(chance)), "A": room.put("all", b"all\n"), "N": str(number(chance))}
+        program = program_by_chance(chance)
+        names = {"P": room.put("p.c", program), "A": room.put("all", b"all\n"), "N": str(number(chance))}
         more = ["--input", room.put("p.in", inputs_by_chance(chance))]
         names["O"] = room.put("p.on", inputs_by_chance(chance))
         first = [(it, room.within(ROOM, it, "p.c", *more, patience=LONG)) for it in ("run", "certify")]
         ran, made = (seen for _, (seen, _, _) in first)
-        bounds = bounds_of(made)
+        bounds = bounds_of(made, program)
         kind = ["long"] if bounds["peak"] > PEAK else (ran.err or ran.out).decode().split()[:1]
         found.count(f"programs: {' '.join(kind)}")
         for command, it in first:
@@ -365,6 +396,7 @@ CASES = {
     "little memory: kinds of lines": many_kinds,
     "little memory: depth of a trace": deep,
     "little memory: line feeds": line_feeds,
+    "little memory: orders that run for long": long_orders,
 }
 BY_CHANCE = {
     "chance: far cells": traces,

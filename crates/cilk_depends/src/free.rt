@@ -1,14 +1,18 @@
 //! Statements that do by arithmetic what a branch does, so that a number need not decide.
 
+use crate::named::{are_inside, is_of_one_statement, is_sum};
 use cilk_messages::around::{byte_at, is_word, word_after, word_at};
 use cilk_messages::place::between;
 
-/// A branch whose only statement is an assignment or a count.
+/// A branch whose only statement is an assignment, a count or an update.
 #[derive(Clone, Copy)]
 pub struct Branch<'a> {
     pub condition: &'a [u8],
     pub target: &'a [u8],
     pub change: Change<'a>,
+    // Where the branch begins, and where its statement ends.
+    at: usize,
+    end: usize,
 }
 
 /// What the statement does to its target.
@@ -18,13 +22,32 @@ pub enum Change<'a> {
     Becomes(&'a [u8]),
     /// `target += value`
     Grows(&'a [u8]),
+    /// `target -= value`
+    Shrinks(&'a [u8]),
     /// `target++`
     Counts,
+    /// `target--`
+    CountsDown,
+    /// `update(target, value)` of an `add` reducer
+    Adds(&'a [u8]),
+}
+
+impl<'a> Change<'a> {
+    // What is assigned, added or taken away.
+    fn value(self) -> &'a [u8] {
+        match self {
+            Change::Becomes(value)
+            | Change::Grows(value)
+            | Change::Shrinks(value)
+            | Change::Adds(value) => value,
+            Change::Counts | Change::CountsDown => &[],
+        }
+    }
 }
 
 /// Returns the branch at this byte of the text, if it is such an `if`, without an `else`, its condition is
-/// one comparison, and its statement has no divisor, and no index but numbers: where these are inside their
-/// arrays, it can't fault where the condition doesn't hold, either.
+/// one comparison, and its statement has no divisor, and no element but those that the condition reads and
+/// those at numbers inside their arrays: so it can't fault where the condition doesn't hold, either.
 pub fn branch_at(text: &[u8], at: usize) -> Option<Branch<'_>> {
     if word_at(text, at) != b"if".as_slice() {
         return None;
@@ -55,14 +78,25 @@ pub fn branch_at(text: &[u8], at: usize) -> Option<Branch<'_>> {
     }
     let statement = between(text, first, end);
     let (target, change) = change_of(statement)?;
-    if has_named_index(statement) {
+    let sides = sides_of(condition)?;
+    if !may_be_read(text, target, sides) || !may_be_read(text, change.value(), sides) {
+        return None;
+    }
+    if matches!(change, Change::Adds(_)) && !is_sum(text, target) {
         return None;
     }
     Some(Branch {
         condition,
         target,
         change,
+        at,
+        end,
     })
+}
+
+// Whether what is read or written is a side of the comparison, or its elements are inside their arrays.
+fn may_be_read(text: &[u8], piece: &[u8], sides: (&[u8], &[u8])) -> bool {
+    piece == sides.0 || piece == sides.1 || are_inside(text, piece)
 }
 
 // Where the first word from a byte on begins that isn't in a comment, or the end of the text.
@@ -103,34 +137,6 @@ fn has_comment(text: &[u8]) -> bool {
         }
     }
     false
-}
-
-// Whether a statement has an index with a name in it.
-fn has_named_index(statement: &[u8]) -> bool {
-    let mut depth: usize = 0;
-    for place in 0..statement.len() {
-        depth = depth_after(depth, statement[place]);
-        if depth > 0 && begins_name(statement, place) {
-            return true;
-        }
-    }
-    false
-}
-
-// In how many brackets the byte after this one is.
-fn depth_after(depth: usize, byte: u8) -> usize {
-    match byte {
-        b'[' => depth.saturating_add(1),
-        b']' => depth.saturating_sub(1),
-        _ => depth,
-    }
-}
-
-// Whether a name begins at a byte.
-fn begins_name(text: &[u8], place: usize) -> bool {
-    let is_inside = place > 0 && is_word(byte_at(text, place.saturating_sub(1)));
-    let first = byte_at(text, place);
-    is_word(first) && !first.is_ascii_digit() && !is_inside
 }
 
 // The parenthesis that closes the one at a byte.
@@ -193,20 +199,45 @@ fn differs(condition: &[u8]) -> bool {
 
 // The target of a statement and what it does to it.
 fn change_of(statement: &[u8]) -> Option<(&[u8], Change<'_>)> {
+    if word_at(statement, 0) == b"update".as_slice() {
+        return update_of(statement);
+    }
     if let Some(target) = statement.strip_suffix(b"++".as_slice()) {
         return is_target(target).then_some((target, Change::Counts));
     }
+    if let Some(target) = statement.strip_suffix(b"--".as_slice()) {
+        return is_target(target).then_some((target, Change::CountsDown));
+    }
     let mark = place_of(statement, 0, b"=")?;
     let value = between(statement, mark.saturating_add(1), statement.len()).trim_ascii();
-    if place_of(value, 0, b"()=<>!&|/%").is_some() {
+    if place_of(value, 0, BARRED).is_some() {
         return None;
     }
     let ahead = between(statement, 0, mark);
-    let (target, change) = match ahead.strip_suffix(b"+".as_slice()) {
-        Some(target) => (target.trim_ascii(), Change::Grows(value)),
-        None => (ahead.trim_ascii(), Change::Becomes(value)),
+    let (target, change) = if let Some(target) = ahead.strip_suffix(b"+".as_slice()) {
+        (target.trim_ascii(), Change::Grows(value))
+    } else if let Some(target) = ahead.strip_suffix(b"-".as_slice()) {
+        (target.trim_ascii(), Change::Shrinks(value))
+    } else {
+        (ahead.trim_ascii(), Change::Becomes(value))
     };
     is_target(target).then_some((target, change))
+}
+
+// What stands in no value of such a statement: calls, comparisons, divisors.
+const BARRED: &[u8] = b"()=<>!&|/%";
+
+// The reducer that an `update` is of, and what it adds.
+fn update_of(statement: &[u8]) -> Option<(&[u8], Change<'_>)> {
+    let open = token_after(statement, 6);
+    let comma = place_of(statement, 0, b",")?;
+    let target = between(statement, open.saturating_add(1), comma).trim_ascii();
+    let rest = between(statement, comma.saturating_add(1), statement.len()).trim_ascii();
+    let value = rest.strip_suffix(b")".as_slice())?.trim_ascii();
+    if place_of(value, 0, BARRED).is_some() || place_of(target, 0, b"[").is_some() {
+        return None;
+    }
+    is_target(target).then_some((target, Change::Adds(value)))
 }
 
 // Whether a text is a variable or an element.
@@ -221,25 +252,32 @@ fn is_target(text: &[u8]) -> bool {
     }
 }
 
+// The sides of a comparison.
+fn sides_of(condition: &[u8]) -> Option<(&[u8], &[u8])> {
+    let mark = place_of(condition, 0, b"<>=!")?;
+    let after = mark.saturating_add(1);
+    let begins = if byte_at(condition, after) == b'=' {
+        after.saturating_add(1)
+    } else {
+        after
+    };
+    let left = between(condition, 0, mark).trim_ascii();
+    let right = between(condition, begins, condition.len()).trim_ascii();
+    Some((left, right))
+}
+
 /// Returns the kind of reducer that keeps what the branch keeps, if that is the greater or the smaller of
-/// two values: its condition compares what it assigns with the target.
-pub fn kept_by(branch: &Branch<'_>) -> Option<&'static str> {
+/// two values, and a reducer could take the variable's place: the condition compares what the branch assigns
+/// with its target, which the text writes nowhere else.
+pub fn kept_by(text: &[u8], branch: &Branch<'_>) -> Option<&'static str> {
     let Change::Becomes(value) = branch.change else {
         return None;
     };
     let mark = place_of(branch.condition, 0, b"<>")?;
-    let left = between(branch.condition, 0, mark).trim_ascii();
-    let after = mark.saturating_add(1);
-    let right = if byte_at(branch.condition, after) == b'=' {
-        between(
-            branch.condition,
-            after.saturating_add(1),
-            branch.condition.len(),
-        )
-        .trim_ascii()
-    } else {
-        between(branch.condition, after, branch.condition.len()).trim_ascii()
-    };
+    let (left, right) = sides_of(branch.condition)?;
+    if !is_of_one_statement(text, branch.target, branch.at, branch.end) {
+        return None;
+    }
     let is_greater = byte_at(branch.condition, mark) == b'>';
     if left == value && right == branch.target {
         Some(if is_greater { "max" } else { "min" })

@@ -25,6 +25,7 @@ mod frames;
 mod free;
 pub mod graph;
 mod memory;
+mod named;
 mod operators;
 pub mod search;
 pub mod told;

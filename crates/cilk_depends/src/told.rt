@@ -57,7 +57,7 @@ fn push_place(
     told.push(alloc, report)?;
     push_excerpt(alloc, report, text, place.at)?;
     match branch_at(text, place.statement) {
-        Some(branch) if place.what == What::Condition => push_hint(alloc, report, &branch),
+        Some(branch) if place.what == What::Condition => push_hint(alloc, report, text, &branch),
         _ => Ok(()),
     }
 }
@@ -73,11 +73,17 @@ fn named(what: What) -> &'static str {
     }
 }
 
-fn push_hint(alloc: Global, report: &mut String, branch: &Branch<'_>) -> Result<(), AllocError> {
+fn push_hint(
+    alloc: Global,
+    report: &mut String,
+    text: &[u8],
+    branch: &Branch<'_>,
+) -> Result<(), AllocError> {
     let Branch {
         condition,
         target,
         change,
+        ..
     } = *branch;
     let hint: Sentence<'_> = match change {
         Change::Becomes(value) => say(BECOMES)
@@ -91,10 +97,17 @@ fn push_hint(alloc: Global, report: &mut String, branch: &Branch<'_>) -> Result<
             .word(condition)
             .word(value)
             .word(target),
+        Change::Shrinks(value) => say(SHRINKS)
+            .word(target)
+            .word(condition)
+            .word(value)
+            .word(target),
         Change::Counts => say(COUNTS).word(target).word(condition).word(target),
+        Change::CountsDown => say(COUNTS_DOWN).word(target).word(condition).word(target),
+        Change::Adds(value) => say(ADDS).word(target).word(condition).word(value),
     };
     push_line(alloc, report, "hint", &hint)?;
-    match (change, kept_by(branch)) {
+    match (change, kept_by(text, branch)) {
         (Change::Becomes(value), Some(kind)) if is_variable(target) => {
             let kept = say(KEEPS).word(target).text(kind).word(target);
             let kept = kept.word(value).word(target);
@@ -120,6 +133,17 @@ const GROWS: &str =
 const COUNTS: &str =
     "the condition no longer decides if this statement is `{} += ({});`, which always writes `{}`, and so may race in \
      a parallel loop";
+
+const SHRINKS: &str =
+    "the condition no longer decides if this statement is `{} -= ({}) * ({});`, which always writes `{}`, and so may \
+     race in a parallel loop";
+
+const COUNTS_DOWN: &str =
+    "the condition no longer decides if this statement is `{} -= ({});`, which always writes `{}`, and so may race in \
+     a parallel loop";
+
+const ADDS: &str =
+    "the condition no longer decides if this statement is `update({}, ({}) * ({}));`";
 
 const KEEPS: &str =
     "or make `{}` a `{}` reducer, with `update({}, {});` in place of the statement; if what it begins with counts, \

@@ -132,8 +132,8 @@ INPUT
   --explain       with `--short`, explanations on standard error too; the other forms have them in any case
   --every         speak of other inputs too: `settled on every input of N numbers with these: P is V, ..` means that each
                   input of N numbers with these at these positions, from 0, is settled as well (what it leaves is its
-                  own); a race or a fault is said to be on every such input. Standard error says which numbers decide
-                  and where: these are fixed
+                  own); a race or a fault is said to be on every such input, but by `--short` alone. Standard error
+                  says which numbers decide and where: these are fixed
   --fix LIST      with `--every`, fix the numbers at these positions, such as 0,3..5, and no others
 HELP
 == run
@@ -189,7 +189,8 @@ INPUT
   --on FILE       run on threads with the numbers of FILE in place of those of --input; the answer is `refused 502`
                   if the program departs from the certified run on them
   --stats         say on standard error how many strands each worker began, how many of these were continuations that it
-                  stole, and how many seconds the run took
+                  stole, how many seconds the run took, and with `--on` whether the numbers that differ are known to
+                  decide nothing
 EXPLAIN
 HELP
 == play

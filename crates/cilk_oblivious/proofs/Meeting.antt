@@ -142,8 +142,8 @@ callee_there k h = there (child_of k) h
     there None h = absurd (subst (λ (b : Bool). elim b as (λ _. Type 0) [ true ↦ ⊥ | false ↦ Unit {0} ]) h tt)
     there (Some c) h = (c, refl)
 
-pub first_there : (code : CodeView) (c : CursorView) (k j : Ask) (callee : Callee) → k ≡ j → child_of j ≡ Some callee → IfSome (child_of k) (λ callee. c ≡ first_of code callee) → c ≡ first_of code callee
-first_there code c k j callee same is h = subst (λ (o : Option Callee). IfSome o (λ callee. c ≡ first_of code callee)) (ap child_of same ∙ is) h
+pub first_there : (code : CodeView) (c : CursorView) (k : Ask) (callee : Callee) → child_of k ≡ Some callee → IfSome (child_of k) (λ callee. c ≡ first_of code callee) → c ≡ first_of code callee
+first_there code c k callee is h = subst (λ (o : Option Callee). IfSome o (λ callee. c ≡ first_of code callee)) is h
 
 -- both kinds of requests that begin a child
 pub function_invokes : (k : Ask) → IsFunctionCall k → IsSome (child_of k)

@@ -1,6 +1,6 @@
 //! Which cells and reducers hold a word that may differ between two inputs.
 
-ghost use Rattle.std.specs.Prelude.{◌≡◌, ◌<◌, ◌&&◌, ◌||◌, true, false, length, slice_index_or, slice_set, IfOk, IfSome, OnOk, if◌then◌else◌};
+ghost use Rattle.std.specs.Prelude.{◌≡◌, ◌<◌, ◌&&◌, ◌||◌, true, false, ℕ, length, nat_eq, slice_index_or, IfOk, IfSome, OnOk, if◌then◌else◌};
 ghost use Rattle.std.specs.HashSet.{contains};
 ghost use Rattle.cilk_monoid.specs.Ranges.{same_instance};
 ghost use Rattle.cilk_frames.specs.declared.cursor.Answer.TheVariants as Answer;
@@ -14,11 +14,10 @@ ghost use Rattle.cilk_oblivious.specs.Watching.{Answered, labels_in};
 use cilk_frames::cursor::Answer;
 use cilk_frames::small_ask::SmallAsk;
 use cilk_types::event::{Cell, Event, Instance};
-use cilk_types::limits::MAX_CELLS;
 use std::alloc::{AllocError, Global};
 use std::collections::HashSet;
 
-/// The marks of cells by number, and the reducers whose views have taken a marked word.
+/// The marks of cells by number, up to the greatest that was marked, and the reducers whose views have taken a marked word.
 #[derive(Drop)]
 pub struct MarkedMemory {
     pub cells: Vec<bool>,
@@ -33,12 +32,12 @@ pub struct MarkedAnswer {
 }
 
 impl MarkedMemory {
-    /// Makes room for the marks of all cells. No cell and no reducer is marked.
-    pub fn new(alloc: Global) -> Result<MarkedMemory, AllocError> {
-        Ok(MarkedMemory {
-            cells: vec![in alloc; false; MAX_CELLS as usize]?,
+    /// No cell and no reducer is marked. Cells past the end of `cells` aren't.
+    pub fn new(alloc: Global) -> MarkedMemory {
+        MarkedMemory {
+            cells: Vec::new(alloc),
             views: HashSet::new(alloc),
-        })
+        }
     }
 
     /// Answers a request after which the frame continues at once, as the event says, and marks what the
@@ -68,16 +67,12 @@ impl MarkedMemory {
                 mark: self.is_view_marked(*instance),
             })),
             (SmallAsk::Write(_, _), Event::Write { cell, value: _ }) => {
-                match self.mark(*cell, first(sent)) {
-                    true => Ok(Some(done())),
-                    false => Ok(None),
-                }
+                self.mark(*cell, first(sent))?;
+                Ok(Some(done()))
             }
             (SmallAsk::Result(_), Event::Write { cell, value: _ }) => {
-                match self.mark_more(*cell, first(sent)) {
-                    true => Ok(Some(done())),
-                    false => Ok(None),
-                }
+                self.mark_more(*cell, first(sent))?;
+                Ok(Some(done()))
             }
             (SmallAsk::Update(_, _), Event::Update { instance, value: _ }) => {
                 self.mark_view(*instance, first(sent))?;
@@ -108,25 +103,36 @@ impl MarkedMemory {
         self.views.contains(&instance)
     }
 
-    // Gives a cell this mark. False if there is no such cell.
-    fn mark(&mut self, cell: Cell, mark: bool) -> bool
-        ensures cells { result ≡ true → self.new.cells.items ≡ slice_set self.old.cells.items cell mark }
-        ensures there { result ≡ true → cell < length self.old.cells.items }
-        ensures views { self.new.views ≡ self.old.views }
+    // Makes room for the marks of the cells up to this one.
+    fn reach(&mut self, cell: usize) -> Result<(), AllocError>
+        ensures there { OnOk result (cell < length self.new.cells.items) }
+        ensures same { OnOk result ((n : ℕ) → slice_index_or self.new.cells.items n false ≡ slice_index_or self.old.cells.items n false) }
+        ensures views { OnOk result (self.new.views ≡ self.old.views) }
     {
-        let cell = cell as usize;
-        if cell >= self.cells.len() {
-            return false;
+        'grow: while self.cells.len() <= cell {
+            self.cells.push(false)?;
         }
-        self.cells[cell] = mark;
-        true
+        Ok(())
     }
 
-    // Marks a cell, if this mark is true. False if there is no such cell.
-    fn mark_more(&mut self, cell: Cell, mark: bool) -> bool
-        ensures cells { result ≡ true → self.new.cells.items ≡ slice_set self.old.cells.items cell (mark || slice_index_or self.old.cells.items cell false) }
-        ensures there { result ≡ true → cell < length self.old.cells.items }
-        ensures views { self.new.views ≡ self.old.views }
+    // Gives a cell this mark.
+    fn mark(&mut self, cell: Cell, mark: bool) -> Result<(), AllocError>
+        ensures cells { OnOk result ((n : ℕ) → slice_index_or self.new.cells.items n false ≡ (if nat_eq cell n then mark else slice_index_or self.old.cells.items n false)) }
+        ensures views { OnOk result (self.new.views ≡ self.old.views) }
+    {
+        let cell = cell as usize;
+        if !mark && cell >= self.cells.len() {
+            return Ok(());
+        }
+        self.reach(cell)?;
+        self.cells[cell] = mark;
+        Ok(())
+    }
+
+    // Marks a cell, if this mark is true.
+    fn mark_more(&mut self, cell: Cell, mark: bool) -> Result<(), AllocError>
+        ensures cells { OnOk result ((n : ℕ) → slice_index_or self.new.cells.items n false ≡ (if nat_eq cell n then mark || slice_index_or self.old.cells.items cell false else slice_index_or self.old.cells.items n false)) }
+        ensures views { OnOk result (self.new.views ≡ self.old.views) }
     {
         let more = mark || self.is_marked(cell);
         self.mark(cell, more)

@@ -72,12 +72,13 @@ fn begun(alloc: Global, code: &Code) -> Result<Watch, AllocError>
             marks: Marks::new(alloc, Vec::new(alloc)),
         },
         below: Vec::new(alloc),
-        memory: MarkedMemory::new(alloc)?,
+        memory: MarkedMemory::new(alloc),
         request: Request {
             asked: AskSlot::new(),
             sent: Vec::new(alloc),
             left: MAX_TICKS,
         },
+        spares: Vec::new(alloc),
     })
 }
 

@@ -1,11 +1,12 @@
 //! A serial run that is gone through again with marks.
 
-ghost use Rattle.std.specs.Prelude.{◌≡◌, ◌++◌, ◌∷◌, [], IfOk, IsSome, MatchOption, List, ℤ, ℕ, Bool, true, false};
+ghost use Rattle.std.specs.Prelude.{◌≡◌, ◌++◌, ◌∷◌, [], IfOk, IfSome, IsSome, MatchOption, List, ℤ, ℕ, Bool, true, false};
 ghost use Rattle.cilk_types.specs.declared.event.Event.{Event};
 ghost use Rattle.cilk_program.specs.Sources.{source};
 ghost use Rattle.cilk_program.specs.SerialRun.{Ending};
 ghost use Rattle.cilk_lower.specs.Behaves.{Behaves};
 ghost use Rattle.cilk_frames.specs.AskSlot.{IsFunctionCall, in_full};
+ghost use Rattle.cilk_frames.specs.Cursor.{first_of};
 ghost use Rattle.cilk_frames.specs.Following.{child_of};
 ghost use Rattle.cilk_program.specs.Syntax.{Source};
 ghost use Rattle.cilk_program.specs.declared.ask.Ask.TheVariants.{End};
@@ -16,6 +17,7 @@ ghost use Rattle.cilk_oblivious.specs.declared.watch.Met.TheVariants as mets;
 use crate::marks::Marks;
 use crate::memory::{MarkedAnswer, MarkedMemory};
 use crate::step::{Request, Waiting, step_openly};
+use cilk_frames::asked::AskSlot;
 use cilk_frames::cursor::{Answer, Cursor};
 use cilk_frames::small_ask::SmallAsk;
 use cilk_lower::code::Code;
@@ -25,6 +27,9 @@ use cilk_types::input::Input;
 use std::alloc::{AllocError, Global};
 use std::mem;
 
+// As of an `AskSlot`: a loop of many turns, halved, has fewer frames at once.
+const MAX_SPARES: usize = 64;
+
 /// The running frame, those that wait for a child, the marks of memory, and the running frame's next
 /// request.
 #[derive(Drop)]
@@ -33,6 +38,8 @@ pub struct Watch {
     pub below: Vec<Waiting>,
     pub memory: MarkedMemory,
     pub request: Request,
+    /// The marks of frames that have ended, for the room that later ones take.
+    pub spares: Vec<Marks>,
 }
 
 /// What has come of an event.
@@ -64,7 +71,7 @@ impl Watch {
     {
         match self.small_ask() {
             None | Some(SmallAsk::Turns(_, _)) => self.begin(alloc, program, code),
-            Some(SmallAsk::End(_)) => self.end(code, input, hidden),
+            Some(SmallAsk::End(_)) => self.end(alloc, code, input, hidden),
             Some(ask) => {
                 let sent = self.request.sent.as_slice();
                 let Some(found) = self.memory.answer(&ask, sent, event)? else {
@@ -97,13 +104,13 @@ impl Watch {
             → Watching (source program.now) inputs hidden code.now self.old before (event ∷ after) whole
             → IfOk result (λ met. Meets (source program.now) inputs hidden code.now met self.new (before ++ event ∷ []) after whole) }
     {
-        let ask = self.request.asked.in_full();
-        let cursor = Cursor::new(alloc, code, &ask)?;
-        let words = mem::replace(&mut self.request.sent, Vec::new(alloc));
-        let child = Waiting {
-            cursor,
-            marks: Marks::new(alloc, words),
+        let cursor = child(alloc, code, &mut self.request.asked)?;
+        let mut marks = match self.spares.pop() {
+            Some(spare) => spare,
+            None => Marks::new(alloc, Vec::new(alloc)),
         };
+        marks.renew(&mut self.request.sent);
+        let child = Waiting { cursor, marks };
         let parent = mem::replace(&mut self.top, child);
         self.below.push(parent)?;
         self.request.asked.put(SmallAsk::Begin);
@@ -111,7 +118,13 @@ impl Watch {
     }
 
     // Ends the running frame, and continues the one that waits for it, if there is one.
-    fn end(&mut self, code: &Code, input: &Input, hidden: &[bool]) -> Result<Met, AllocError>
+    fn end(
+        &mut self,
+        alloc: Global,
+        code: &Code,
+        input: &Input,
+        hidden: &[bool],
+    ) -> Result<Met, AllocError>
         requires ends { (v : ℤ) × (self.old.request.asked ≡ End v) }
         requires watching { (p : Source) × (before after : List Event) × (whole : Ending) × (event : Event) × Watching p input.now (hidden_of hidden.now) code.now self.old before (event ∷ after) whole }
         ensures { (p : Source) (before after : List Event) (event : Event) (whole : Ending)
@@ -121,6 +134,10 @@ impl Watch {
         let Some(frame) = pop_waiting(&mut self.below) else {
             return Ok(Met::Ended);
         };
+        let operands = self.top.cursor.take_operands(alloc);
+        self.request.asked.keep(alloc, operands);
+        let marks = mem::replace(&mut self.top.marks, Marks::new(alloc, Vec::new(alloc)));
+        keep(&mut self.spares, marks);
         self.top = frame;
         let told = MarkedAnswer {
             answer: Answer::Done,
@@ -128,6 +145,27 @@ impl Watch {
         };
         let goes = step_openly(code, input, hidden, &mut self.top, told, &mut self.request)?;
         Ok(goes_or_blocked(goes))
+    }
+}
+
+// The frame that is requested, before it begins: a function's in the operands of one that has ended.
+fn child(alloc: Global, code: &Code, asked: &mut AskSlot) -> Result<Cursor, AllocError>
+    requires { IsSome (child_of asked.old) }
+    ensures first { IfOk result (λ c. IfSome (child_of asked.old) (λ callee. c ≡ first_of code.now callee)) }
+    ensures same { asked.new ≡ asked.old }
+{
+    if let Some(ask) = asked.small_ask() {
+        return Cursor::new(alloc, code, &ask.in_full());
+    }
+    let operands = asked.spare(alloc);
+    let (_, call) = asked.invocation();
+    Cursor::function_in::<false>(alloc, operands, code, call)
+}
+
+// Keeps the marks of a frame that has ended, unless many are kept or memory is refused.
+fn keep(spares: &mut Vec<Marks>, marks: Marks) {
+    if spares.len() < MAX_SPARES {
+        let _ = spares.push(marks);
     }
 }
 

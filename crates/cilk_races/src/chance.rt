@@ -1,6 +1,7 @@
 //! Schedules that are drawn by chance.
 
 use crate::outcomes::{MOST, Players, TWO, played};
+use crate::plays::Budget;
 use cilk_findings::case::Case;
 use cilk_findings::scene::Scene;
 use cilk_messages::sentence::{Sentence, push_line, say};
@@ -16,6 +17,9 @@ const DRAWN: usize = 16;
 /// The most events of a run of which schedules are drawn: a play costs several times as much as the serial
 /// run.
 pub const LONGEST: usize = 125_000;
+
+// The events that a short run counts as, where moves are allotted to the plays.
+const SHORT: usize = 10_000;
 
 // How often a worker steals, if it is idle, and continues.
 const MOVES: usize = 100;
@@ -56,13 +60,18 @@ pub fn draw(
     scene: &Scene<'_>,
     serial: &Outcome,
     least: u8,
+    budget: &mut Budget,
 ) -> Result<(Option<Drawn>, usize), AllocError> {
     let events = scene.run.trace.len();
     let mut best: Option<Drawn> = None;
     let (mut least, mut tried) = (least, 0);
+    budget.refill(events.max(SHORT).saturating_mul(DRAWN));
     if events <= LONGEST {
         for number in 0..DRAWN {
-            let drawn = numbered(scene, serial, number)?;
+            if budget.is_spent() {
+                break;
+            }
+            let drawn = numbered(scene, serial, number, budget)?;
             tried = number + 1;
             if drawn.told > least {
                 least = drawn.told;
@@ -74,13 +83,18 @@ pub fn draw(
         }
     }
     match best {
-        Some(drawn) => Ok((Some(cut(scene, serial, drawn)?), tried)),
+        Some(drawn) => Ok((Some(cut(scene, serial, drawn, budget)?), tried)),
         None => Ok((None, tried)),
     }
 }
 
 // The schedule with this number, played.
-fn numbered(scene: &Scene<'_>, serial: &Outcome, number: usize) -> Result<Drawn, AllocError> {
+fn numbered(
+    scene: &Scene<'_>,
+    serial: &Outcome,
+    number: usize,
+    budget: &mut Budget,
+) -> Result<Drawn, AllocError> {
     let players = PLAYERS[number % PLAYERS.len()];
     let events = scene.run.trace.len();
     // by few events at a time, and by many
@@ -92,7 +106,7 @@ fn numbered(scene: &Scene<'_>, serial: &Outcome, number: usize) -> Result<Drawn,
     };
     let most = u32::try_from(most).unwrap_or(u32::MAX);
     let steps = steps_of(scene.case.alloc, number as u64, players, most)?;
-    let (told, words) = play(scene, serial, players, steps.as_slice())?;
+    let (told, words) = play(scene, serial, players, steps.as_slice(), budget)?;
     Ok(Drawn {
         players,
         steps,
@@ -140,6 +154,7 @@ fn play(
     serial: &Outcome,
     players: Players,
     steps: &[Step],
+    budget: &mut Budget,
 ) -> Result<(u8, Sentence<'static>), AllocError> {
     let mut whole = steps.to_vec(scene.case.alloc)?;
     whole.push(Step {
@@ -147,12 +162,17 @@ fn play(
         order: LineOrder::All,
     })?;
     let Scene { case, run } = scene;
-    played(case, &run.code, serial, players, whole.as_slice())
+    played(case, &run.code, serial, players, whole.as_slice(), budget)
 }
 
 // Looks for a short beginning that tells as much, by halving. Two steps are left at least, of which the
 // second is a steal.
-fn cut(scene: &Scene<'_>, serial: &Outcome, drawn: Drawn) -> Result<Drawn, AllocError> {
+fn cut(
+    scene: &Scene<'_>,
+    serial: &Outcome,
+    drawn: Drawn,
+    budget: &mut Budget,
+) -> Result<Drawn, AllocError> {
     let Drawn {
         players,
         mut steps,
@@ -162,10 +182,10 @@ fn cut(scene: &Scene<'_>, serial: &Outcome, drawn: Drawn) -> Result<Drawn, Alloc
     let mut short: usize = 1;
     for _half in 0..8 {
         let middle = (short.saturating_add(steps.len())) / 2;
-        if middle <= short || middle >= steps.len() {
+        if middle <= short || middle >= steps.len() || budget.is_spent() {
             break;
         }
-        let (told, said) = play(scene, serial, players, &steps.as_slice()[..middle])?;
+        let (told, said) = play(scene, serial, players, &steps.as_slice()[..middle], budget)?;
         if told == most {
             steps.truncate(middle);
             words = said;

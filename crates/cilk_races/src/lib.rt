@@ -43,6 +43,7 @@ mod cures;
 mod orders;
 mod outcomes;
 mod pair;
+mod plays;
 pub mod races;
 mod schedules;
 mod texts;

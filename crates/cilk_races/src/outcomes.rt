@@ -1,24 +1,27 @@
 //! What a schedule leaves, beside what the serial run leaves.
 
+use crate::plays::{Budget, Played, play};
 use cilk_findings::case::Case;
 use cilk_lower::code::Code;
 use cilk_messages::sentence::{Part, Sentence, say};
 use cilk_parser::script::Step;
-use cilk_schedule::{PlayFault, play_steps_on};
 use cilk_types::outcome::{Final, Outcome};
 use std::alloc::AllocError;
 
 /// `play` doesn't take the schedule.
 pub const NONE: u8 = 0;
 
+/// Its run is too long for a search.
+pub const LONG: u8 = 1;
+
 /// Its outcome is the serial run's.
-pub const SAME: u8 = 1;
+pub const SAME: u8 = 2;
 
 /// It leaves other values in global variables, and nothing else.
-pub const OTHER: u8 = 2;
+pub const OTHER: u8 = 3;
 
 /// It leaves another result, output or reducer, or stops by a fault.
-pub const MOST: u8 = 3;
+pub const MOST: u8 = 4;
 
 const GLOBALS: &str =
     "this script for `play{}` leaves other values in global variables than `run`; of {} scripts that were tried, \
@@ -26,6 +29,14 @@ const GLOBALS: &str =
 
 const NOTHING: &str =
     "this script for `play{}` makes the later access first; {} scripts were tried, and all leave what `run` leaves";
+
+const SOME: &str =
+    "this script for `play` makes the later access first; {} scripts were tried, and all that were played to their \
+     end leave what `run` leaves";
+
+const GOES_ON: &str =
+    "this script for `play{}` makes the later access first; then its run makes many more events than `run`, and \
+     wasn't played to its end; of {} scripts that were tried none that was leaves another outcome";
 
 const STOPS: &str = "by this script for `play{}` the run stops by fault {}";
 
@@ -56,17 +67,25 @@ pub fn played(
     serial: &Outcome,
     players: Players,
     steps: &[Step],
+    budget: &mut Budget,
 ) -> Result<(u8, Sentence<'static>), AllocError> {
-    let workers = players.count.max(1);
-    match play_steps_on(case.alloc, code, &case.input, workers, steps) {
-        Ok(Some(outcome)) => Ok(differing(&outcome, serial, players.words)),
-        Ok(None) | Err(PlayFault::Line(_)) => Ok((NONE, say(""))),
-        Err(PlayFault::Stop { fault, .. }) => {
-            let words = say(STOPS).text(players.words);
-            Ok((MOST, words.count(fault.number() as usize)))
-        }
-        Err(PlayFault::Memory) => Err(AllocError),
-    }
+    Ok(
+        match play(case, code, players.count.max(1), steps, budget)? {
+            Played::Ended(outcome) => differing(&outcome, serial, players.words),
+            Played::Stopped(fault) => {
+                let words = say(STOPS).text(players.words);
+                (MOST, words.count(fault.number() as usize))
+            }
+            Played::Long => (LONG, say(GOES_ON).text(players.words)),
+            Played::Cut => (NONE, say("")),
+        },
+    )
+}
+
+/// Returns the words for a schedule that leaves what the serial run does, where others weren't played to their
+/// end.
+pub fn some_are_same() -> Sentence<'static> {
+    say(SOME)
 }
 
 // The difference between an outcome and the serial run's.

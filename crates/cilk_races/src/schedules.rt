@@ -1,8 +1,9 @@
 //! A search for a schedule that shows a race.
 
 use crate::chance::{Drawn, LONGEST, draw};
-use crate::outcomes::{MOST, NONE, SAME, TWO, played};
+use crate::outcomes::{MOST, NONE, SAME, TWO, played, some_are_same};
 use crate::pair::Pair;
+use crate::plays::Budget;
 use cilk_findings::case::Case;
 use cilk_findings::runs::Run;
 use cilk_findings::scene::Scene;
@@ -14,8 +15,8 @@ use cilk_types::invocation::Invocation;
 use cilk_types::outcome::Outcome;
 use std::alloc::AllocError;
 
-// Schedules are played until they have made about this many events, but at least one is: a play costs
-// several times as much as the serial run.
+// Schedules near the race are played until they have made this many moves together, but at least one is: a
+// play costs several times as much as the serial run.
 const MADE: usize = 40_000;
 
 // The events of the child that the first worker makes before the steal: none, or all up to this many
@@ -79,12 +80,16 @@ pub fn search(scene: &Scene<'_>, pair: &Pair) -> Result<Option<Schedule>, AllocE
     let Some(serial) = &scene.run.outcome else {
         return Ok(None);
     };
-    let (near, played) = best_of(scene, pair, serial)?;
+    let mut budget = Budget::of(MADE, scene.run.trace.len());
+    let (mut near, played) = best_of(scene, pair, serial, &mut budget)?;
     if near.told == MOST {
         return Ok(Some(Schedule::Near(near, played)));
     }
-    let (drawn, tried) = draw(scene, serial, near.told)?;
+    let (drawn, tried) = draw(scene, serial, near.told.max(SAME), &mut budget)?;
     let tried = played.saturating_add(tried);
+    if near.told == SAME && budget.gave_up() {
+        near.words = some_are_same();
+    }
     Ok(match drawn {
         Some(drawn) => Some(Schedule::Drawn(drawn, tried)),
         None if near.told == NONE => None,
@@ -104,11 +109,13 @@ pub fn only_one(scene: &Scene<'_>, pair: &Pair) -> Option<Found> {
 /// Plays the one schedule of a long run, and returns what [`search`] would. The run's events and notes are
 /// freed first: with those that the play makes they would take twice the memory.
 pub fn search_one(case: &Case<'_>, run: Run, found: Found) -> Result<Option<Schedule>, AllocError> {
+    let events = run.trace.len();
     let (code, outcome) = run.without_events();
     let Some(serial) = &outcome else {
         return Ok(None);
     };
-    let (told, words) = found.play(case, &code, serial)?;
+    let mut budget = Budget::of(0, events);
+    let (told, words) = found.play(case, &code, serial, &mut budget)?;
     if told == NONE {
         return Ok(None);
     }
@@ -121,9 +128,13 @@ pub fn search_one(case: &Case<'_>, run: Run, found: Found) -> Result<Option<Sche
 }
 
 // The schedule near the race that tells most, and how many were played.
-fn best_of(scene: &Scene<'_>, pair: &Pair, serial: &Outcome) -> Result<(Found, usize), AllocError> {
+fn best_of(
+    scene: &Scene<'_>,
+    pair: &Pair,
+    serial: &Outcome,
+    budget: &mut Budget,
+) -> Result<(Found, usize), AllocError> {
     let mut best = schedule_of(scene, pair, 0, 0);
-    let most = MADE / scene.run.trace.len().max(1);
     let mut played: usize = 0;
     for number in 0..2 + NEAR.len() * BEYOND.len() + PLACES * AROUND.len() {
         let Some(found) = numbered(scene, pair, number) else {
@@ -132,7 +143,7 @@ fn best_of(scene: &Scene<'_>, pair: &Pair, serial: &Outcome) -> Result<(Found, u
         if number > 2 && is_again(scene, pair, number.saturating_sub(2), &found) {
             continue;
         }
-        let (told, words) = found.play(scene.case, &scene.run.code, serial)?;
+        let (told, words) = found.play(scene.case, &scene.run.code, serial, budget)?;
         played = played.saturating_add(1);
         if told > best.told {
             best = Found {
@@ -141,7 +152,7 @@ fn best_of(scene: &Scene<'_>, pair: &Pair, serial: &Outcome) -> Result<(Found, u
                 ..found
             };
         }
-        if played >= most || told == MOST {
+        if budget.is_spent() || told == MOST {
             break;
         }
     }
@@ -191,6 +202,7 @@ impl Found {
         case: &Case<'_>,
         code: &Code,
         serial: &Outcome,
+        budget: &mut Budget,
     ) -> Result<(u8, Sentence<'static>), AllocError> {
         let place = u32::try_from(self.place).unwrap_or(u32::MAX);
         let steps = [
@@ -206,7 +218,7 @@ impl Found {
                 order: LineOrder::All,
             },
         ];
-        played(case, code, serial, TWO, &steps)
+        played(case, code, serial, TWO, &steps, budget)
     }
 }
 

@@ -26,16 +26,57 @@ use cilk_depends::told::push_places;
 use cilk_findings::fault::CaseFault;
 use cilk_messages::batch::{Batch, Form, batch_of, object, place_in, short};
 use cilk_messages::claim::Claim;
+use cilk_messages::positions::is_list;
 use cilk_messages::words::Order;
 use cilk_profile::Kept;
 use std::alloc::{AllocError, Global};
 use std::io::Write;
 
-// The error of `settle` for words that name no programs.
 const USAGE: &str =
-    "error: these words name no programs to settle, or no list of positions such as 0,3..5: \
-    `cilk settle PROGRAM.. [--input FILE] [--every [--fix LIST]] [--short | --json] [--explain]`\n\
+    ": `cilk settle PROGRAM.. [--input FILE] [--every [--fix LIST]] [--short | --json] [--explain]`\n\
     hint: `cilk help settle` describes `settle` and its options\n";
+
+// What is wrong with words that name no programs to settle, and how they are used.
+fn usage(alloc: Global, words: &[&str]) -> Result<String, AllocError> {
+    let mut text = String::from_str(alloc, "error: ")?;
+    push_wrong(&mut text, words)?;
+    text.push_str(USAGE)?;
+    Ok(text)
+}
+
+fn push_wrong(text: &mut String, words: &[&str]) -> Result<(), AllocError> {
+    let (mut is_every, mut is_fixed, mut is_read, mut forms) = (false, false, false, 0);
+    let mut awaits = "";
+    for word in words.iter().skip(1) {
+        if awaits == "--fix" && !is_list(word) {
+            return write!(text, "`{word}` is no list of positions such as 0,3..5");
+        }
+        if !awaits.is_empty() {
+            awaits = "";
+            continue;
+        }
+        match *word {
+            "--input" if is_read => return text.push_str("`--input` stands there twice"),
+            "--input" | "--fix" => awaits = *word,
+            "--short" | "--json" => forms += 1,
+            "--every" | "--explain" | "--color" => {}
+            other if other.starts_with("--") => {
+                return write!(text, "`settle` has no option `{other}` beside these words");
+            }
+            _ => {}
+        }
+        is_every = is_every || *word == "--every";
+        is_fixed = is_fixed || *word == "--fix";
+        is_read = is_read || *word == "--input";
+    }
+    text.push_str(match awaits {
+        "--input" => "`--input` wants a file",
+        "--fix" => "`--fix` wants a list of positions such as 0,3..5",
+        _ if forms > 1 => "`--short` and `--json` are two forms: one may be named, once",
+        _ if is_fixed && !is_every => "`--fix` goes with `--every` alone",
+        _ => "these words name no programs to settle",
+    })
+}
 
 /// Serves `settle` for several programs, for every input, or in a short form.
 pub fn serve_settling<F: Keeps, R: CountedRead, O: Write, E: Write>(
@@ -52,7 +93,7 @@ pub fn serve_settling<F: Keeps, R: CountedRead, O: Write, E: Write>(
 {
     match batch_of(alloc, words) {
         Ok(Some(batch)) => settle_each(alloc, &batch, files, input, out, err),
-        Ok(None) => complain(alloc, &wrong_words(String::from_str(alloc, USAGE)), err).status,
+        Ok(None) => complain(alloc, &wrong_words(usage(alloc, words)), err).status,
         Err(_) => complain(alloc, &Failure::Memory, err).status,
     }
 }
@@ -426,13 +467,32 @@ fn told_on_every(
             reply.numbers,
         )?;
     }
-    if reply.claim.is_none() && reply.numbers > 0 {
-        text.push_str("this holds of this input alone\n")?;
-    }
+    push_alone(&mut text, batch, reply)?;
     if batch.form == Form::Json {
         return Ok(text);
     }
     colored(alloc, text, kept)
+}
+
+// Adds a line where no other input is meant.
+fn push_alone(
+    text: &mut String,
+    batch: &Batch<'_>,
+    reply: &EveryReply<'_>,
+) -> Result<(), AllocError> {
+    let count = reply.numbers;
+    match &reply.claim {
+        None if count > 0 => text.push_str("this holds of this input alone\n"),
+        Some(_) if count == 0 => {
+            text.push_str("no other input has 0 numbers: this holds of this input alone\n")
+        }
+        Some(claim) if claim.fixed.len() == count => text.push_str(if batch.fix.is_some() {
+            "each number is fixed: this holds of this input alone\n"
+        } else {
+            "each number decides: this holds of this input alone\n"
+        }),
+        _ => Ok(()),
+    }
 }
 
 // The explanation of a reply alone.

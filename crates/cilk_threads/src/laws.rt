@@ -40,5 +40,5 @@ pub fn accepted_event_orders_have_numbers()
 
 /// The room of all racks together, as a number, for contracts that name the constant.
 pub fn room_is()
-    ensures { MAX_ROOM ≡ 524288 }
+    ensures { MAX_ROOM ≡ 262144 }
 {}

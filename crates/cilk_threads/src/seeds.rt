@@ -150,7 +150,7 @@ pub fn takes<N: Naming>(
 /// The most tasks for which racks have room at first, all together. A deque may round the room of each
 /// up to twice as much, and writes each slot as it is made: 28,656 spawns take 2.4 MB a rack, and
 /// without this bound 65,535 spawns by 64 workers would take some 300 MB before the run begins.
-pub const MAX_ROOM: usize = 524_288;
+pub const MAX_ROOM: usize = 262_144;
 
 // The room of each of `count` racks: for every spawn of the run, or else its part of the most.
 fn room_for(spawns: usize, count: u32) -> usize
@@ -159,7 +159,7 @@ fn room_for(spawns: usize, count: u32) -> usize
     spawns.min(MAX_ROOM / count.max(1) as usize)
 }
 
-/// Makes a rack for each worker, with room for every spawn of the run: up to 65,536 spawns by 8
+/// Makes a rack for each worker, with room for every spawn of the run: up to 65,536 spawns by 4
 /// workers. Of a longer run by more workers it has room for some of them, and grows past it.
 pub fn racks<N: Naming>(
     alloc: Global,

@@ -295,7 +295,8 @@ fn push_alike(
 const ALIKE: &str =
     "inputs alike: the numbers that differ decide nothing, so no run on them departs\n";
 
-const UNALIKE: &str = "inputs not known to be alike: a run on them may depart\n";
+const UNALIKE: &str =
+    "inputs not known to be alike: that no run on them departs is known from this run alone\n";
 
 // Which numbers of two inputs differ, if there are as many of them.
 fn differing(

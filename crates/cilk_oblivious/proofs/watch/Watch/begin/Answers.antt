@@ -10,10 +10,10 @@ pub returns : goal.returns
 returns c = λ inputs hidden before after event whole behaves watching.
     let callee = callee_there c.args.self.now.request.asked c.requires in
     let is = invokes c.args.self.now.request.asked callee.0 callee.1 in
-    let first = first_there c.args.code.now c.in_ok-cursor.cursor c.in_full-ask.result c.args.self.now.request.asked callee.0 c.in_full-ask.ensures callee.1 c.in_ok-cursor.ensures.first in
-    let w : Watch = record { top = c.replace-parent.new.dest; below = c.push.new.self; memory = c.args.self.now.memory; request = record { asked = c.put.new.self; sent = c.replace-words.new.dest; left = c.args.self.now.request.left } } in
+    let first = first_there c.args.code.now c.in_ok-cursor.cursor c.args.self.now.request.asked callee.0 callee.1 c.in_ok-cursor.ensures.first in
+    let w : Watch = record { top = c.replace-parent.new.dest; below = c.push.new.self; memory = c.args.self.now.memory; request = record { asked = c.put.new.self; sent = c.renew.new.words; left = c.args.self.now.request.left }; spares = c.pop.new.self } in
     met_child (source c.args.program.now) inputs hidden c.args.code.now c.args.self.now w before after whole event is.0 callee.0 c.args.program.now.well_named behaves watching is.1
     (ap (λ (t : Waiting). t.cursor) c.replace-parent.ensures.after ∙ first)
-    (ap (λ (t : Waiting). t.marks) c.replace-parent.ensures.after ∙ c.new-3.ensures ∙ ap {B = FrameMarks} (λ v. record { words = v.items; stack = []; held = false }) c.replace-words.ensures.value)
+    (ap (λ (t : Waiting). t.marks) c.replace-parent.ensures.after ∙ c.renew.ensures.marks)
     (c.in_ok-push.ensures.items ∙ ap (λ (t : Waiting). c.args.self.now.below.items ++ t ∷ []) c.replace-parent.ensures.value)
-    refl c.put.ensures (ap (λ v. v.items) c.replace-words.ensures.after ∙ c.new-2.ensures.items) refl
+    refl c.put.ensures c.renew.ensures.words refl

@@ -11,7 +11,7 @@ returns-in_default c = λ p before after event whole watching.
 
 pub returns : goal.returns
 returns c = λ p before after event whole watching.
-    let w : Watch = record { top = c.step_openly.new.frame; below = c.pop_waiting.new.below; memory = c.args.self.now.memory; request = c.step_openly.new.request } in
+    let w : Watch = record { top = c.step_openly.new.frame; below = c.pop_waiting.new.below; memory = c.args.self.now.memory; request = c.step_openly.new.request; spares = c.keep-2.new.spares } in
     let back = goes_back p c.args.input.now (hidden_of c.args.hidden.now) c.args.code.now c.args.self.now c.pop_waiting.new.below.items c.in-Some.frame before (event ∷ after) whole watching c.in-Some.ensures in
     meets_if p c.args.input.now (hidden_of c.args.hidden.now) c.args.code.now w (before ++ event ∷ []) after whole c.in_ok-goes.goes c.goes_or_blocked.result c.goes_or_blocked.ensures
     (λ yes. met_return p c.args.input.now (hidden_of c.args.hidden.now) c.args.code.now c.args.self.now w c.in-Some.frame before after whole event c.requires.ends.0 back c.requires.ends.1 refl (c.in_ok-goes.ensures.steps yes) (c.in_ok-goes.ensures.openly yes))

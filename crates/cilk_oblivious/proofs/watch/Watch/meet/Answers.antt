@@ -20,7 +20,7 @@ step_openly-requires c =
 pub returns-in_ok-goes-in-Some : goal.returns-in_ok-goes-in-Some
 returns-in_ok-goes-in-Some c = λ before after whole watching.
     let shown = subst (λ (o : Option MarkedAnswer). IfSome o (λ x. Shown (labels_in c.args.self.now.memory) (labels_in c.answer.new.self) c.as_slice-sent.result.now c.in-Some.ask c.args.event.now x)) c.in-Some-2.is c.in_ok-found-in-Some.ensures in
-    let w : Watch = record { top = c.step_openly.new.frame; below = c.args.self.now.below; memory = c.answer.new.self; request = c.step_openly.new.request } in
+    let w : Watch = record { top = c.step_openly.new.frame; below = c.args.self.now.below; memory = c.answer.new.self; request = c.step_openly.new.request; spares = c.args.self.now.spares } in
     let shown' = subst (λ (sent : List Bool). Shown (labels_in c.args.self.now.memory) (labels_in c.answer.new.self) sent c.in-Some.ask c.args.event.now c.in-Some-2.found) c.as_slice-sent.ensures.value shown in
     meets_if (source c.args.program.now) c.args.input.now (hidden_of c.args.hidden.now) c.args.code.now w (before ++ c.args.event.now ∷ []) after whole c.in_ok-goes-in-Some.goes c.goes_or_blocked.result c.goes_or_blocked.ensures
     (λ yes. met_inner (source c.args.program.now) c.args.input.now (hidden_of c.args.hidden.now) c.args.code.now c.args.self.now w before after whole c.args.event.now (in_full c.in-Some.ask) c.in-Some-2.found.answer c.in-Some-2.found.mark watching c.in-Some.ensures shown'.0 refl shown'.2
