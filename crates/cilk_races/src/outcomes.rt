@@ -35,8 +35,8 @@ const SOME: &str =
      end leave what `run` leaves";
 
 const GOES_ON: &str =
-    "this script for `play{}` makes the later access first; then its run makes many more events than `run`, and \
-     wasn't played to its end; of {} scripts that were tried none that was leaves another outcome";
+    "this script for `play{}` makes the later access first; then its run has many more calls than `run`, and wasn't \
+     played to its end; of {} scripts that were tried none that was leaves another outcome";
 
 const STOPS: &str = "by this script for `play{}` the run stops by fault {}";
 

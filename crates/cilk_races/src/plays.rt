@@ -1,4 +1,5 @@
-//! Plays of scripts whose events are counted and limited. Another order may run far longer than the serial one.
+//! Plays of scripts whose moves are counted, and whose frames are limited: another order may run far longer than the
+//! serial one.
 
 ghost use Rattle.std.specs.Prelude.{◌≡◌, ◌<◌};
 ghost use Rattle.cilk_schedule.specs.Played.{IsUnstopped};
@@ -7,31 +8,35 @@ use cilk_findings::case::Case;
 use cilk_lower::code::Code;
 use cilk_parser::script::Step;
 use cilk_parser::script_choices::{Choices, Next};
-use cilk_schedule::{Choice, Machine, Stop, Told};
+use cilk_schedule::{Act, Choice, Machine, Stop, Told};
+use cilk_types::event::Event;
 use cilk_types::fault::Fault;
 use cilk_types::outcome::Outcome;
 use std::alloc::AllocError;
 
-// The most moves of one play, and how many more for each event of the serial run.
-const MOVES: usize = 125_000;
+// The frames that a play may begin, and how many more for each frame of the serial run: frames take most memory.
+const FRAMES: usize = 8_192;
 
 const MORE: usize = 2;
+
+// The most rounds of one `all`, as of `play`.
+const ROUNDS: u32 = 4_000_000;
 
 /// The moves that plays may still make: choices that aren't skipped, most of which make an event.
 #[derive(Clone, Copy)]
 pub struct Budget {
     left: usize,
-    one: usize,
+    frames: usize,
     gave_up: bool,
 }
 
 impl Budget {
     /// Returns a budget of `all` moves for all plays together of a program whose serial run has so many
-    /// events. A play that is begun may go past it, up to a limit of its own.
-    pub fn of(all: usize, events: usize) -> Budget {
+    /// frames. A play that is begun may go past it, to the limits of a run.
+    pub fn of(all: usize, frames: usize) -> Budget {
         Budget {
             left: all,
-            one: events.saturating_mul(MORE).saturating_add(MOVES),
+            frames: frames.saturating_mul(MORE).saturating_add(FRAMES),
             gave_up: false,
         }
     }
@@ -41,18 +46,14 @@ impl Budget {
         self.left = all;
     }
 
-    /// Returns whether a play made more moves than one may.
-    pub fn gave_up(&self) -> bool {
-        self.gave_up
-    }
-
     /// Returns whether no moves are left.
     pub fn is_spent(&self) -> bool {
         self.left == 0
     }
 
-    fn take(&mut self, moves: usize) {
-        self.left = self.left.saturating_sub(moves);
+    /// Returns whether a play began more frames than one may.
+    pub fn gave_up(&self) -> bool {
+        self.gave_up
     }
 }
 
@@ -61,7 +62,7 @@ impl Budget {
 pub enum Played {
     Ended(Outcome),
     Stopped(Fault),
-    /// The play made more moves than one may.
+    /// The play began more frames than one may.
     Long,
     /// The script ended before the run, or has more choices than a script may.
     Cut,
@@ -82,11 +83,12 @@ impl From<AllocError> for Halt {
     }
 }
 
-/// A machine, and the moves that it may still make.
+/// A machine, the moves that it made, and the frames that it may still begin.
 #[derive(Drop)]
 struct Player<'a> {
     machine: Machine<'a>,
-    left: usize,
+    moves: usize,
+    frames: usize,
 }
 
 impl Player<'_> {
@@ -97,16 +99,30 @@ impl Player<'_> {
     {
         match self.machine.choose(case.alloc, choice) {
             Ok(Told::Skipped) => Ok(()),
-            Ok(_) => match self.left.checked_sub(1) {
-                Some(left) => {
-                    self.left = left;
-                    Ok(())
-                }
-                None => Err(Halt::Long),
-            },
+            Ok(told) => self.count(told),
             Err(Stop::At { fault, strand: _ }) => Err(Halt::Fault(fault)),
             Err(Stop::Memory) => Err(Halt::Memory),
         }
+    }
+
+    // Counts a move.
+    fn count(&mut self, told: Told) -> Result<(), Halt>
+        ensures { self.new.machine ≡ self.old.machine }
+    {
+        self.moves = self.moves.saturating_add(1);
+        if let Told::Did(
+            Act {
+                frame: _,
+                event: Event::Begin { frame: _ },
+            },
+        ) = told
+        {
+            match self.frames.checked_sub(1) {
+                Some(frames) => self.frames = frames,
+                None => return Err(Halt::Long),
+            }
+        }
+        Ok(())
     }
 
     // Makes rounds of all workers until the run has ended.
@@ -114,7 +130,7 @@ impl Player<'_> {
         requires { IsUnstopped self.old.machine }
         ensures { IfOk result (λ _. IsUnstopped self.new.machine) }
     {
-        'rounds: for _round in 0..self.left {
+        'rounds: for _round in 0..ROUNDS {
             if self.machine.ended() {
                 break;
             }
@@ -162,11 +178,16 @@ pub fn play(
 {
     let mut player = Player {
         machine: Machine::new(case.alloc, code, &case.input, workers)?,
-        left: budget.one,
+        moves: 0,
+        frames: budget.frames,
     };
     let followed = player.follow(case, workers, steps);
-    let Player { machine, left } = player;
-    budget.take(budget.one.saturating_sub(left));
+    let Player {
+        machine,
+        moves,
+        frames: _,
+    } = player;
+    budget.left = budget.left.saturating_sub(moves);
     match followed {
         Ok(()) => Ok(match machine.into_outcome() {
             Some(outcome) => Played::Ended(outcome),

@@ -80,7 +80,7 @@ pub fn search(scene: &Scene<'_>, pair: &Pair) -> Result<Option<Schedule>, AllocE
     let Some(serial) = &scene.run.outcome else {
         return Ok(None);
     };
-    let mut budget = Budget::of(MADE, scene.run.trace.len());
+    let mut budget = Budget::of(MADE, scene.run.replay.frames.len());
     let (mut near, played) = best_of(scene, pair, serial, &mut budget)?;
     if near.told == MOST {
         return Ok(Some(Schedule::Near(near, played)));
@@ -109,12 +109,12 @@ pub fn only_one(scene: &Scene<'_>, pair: &Pair) -> Option<Found> {
 /// Plays the one schedule of a long run, and returns what [`search`] would. The run's events and notes are
 /// freed first: with those that the play makes they would take twice the memory.
 pub fn search_one(case: &Case<'_>, run: Run, found: Found) -> Result<Option<Schedule>, AllocError> {
-    let events = run.trace.len();
+    let frames = run.replay.frames.len();
     let (code, outcome) = run.without_events();
     let Some(serial) = &outcome else {
         return Ok(None);
     };
-    let mut budget = Budget::of(0, events);
+    let mut budget = Budget::of(0, frames);
     let (told, words) = found.play(case, &code, serial, &mut budget)?;
     if told == NONE {
         return Ok(None);
