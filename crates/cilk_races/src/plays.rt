@@ -1,7 +1,7 @@
 //! Plays of scripts whose moves are counted, and whose frames are limited: another order may run far longer than the
 //! serial one.
 
-ghost use Rattle.std.specs.Prelude.{◌≡◌, ◌<◌};
+ghost use Rattle.std.specs.Prelude.{◌≡◌, ◌<◌, IfOk};
 ghost use Rattle.cilk_schedule.specs.Played.{IsUnstopped};
 
 use cilk_findings::case::Case;
@@ -125,6 +125,20 @@ impl Player<'_> {
         Ok(())
     }
 
+    // A worker's turn: it continues its frame, or steals the first continuation that is offered.
+    fn turn(&mut self, case: &Case<'_>, worker: u32) -> Result<(), Halt>
+        requires { IsUnstopped self.old.machine }
+        ensures { IfOk result (λ _. IsUnstopped self.new.machine) }
+    {
+        if self.machine.holds(worker) {
+            return self.make(case, Choice::Run(worker));
+        }
+        if self.machine.offered() > 0 {
+            return self.make(case, Choice::Steal(worker, 0));
+        }
+        Ok(())
+    }
+
     // Makes rounds of all workers until the run has ended.
     fn rounds(&mut self, case: &Case<'_>, workers: u32) -> Result<(), Halt>
         requires { IsUnstopped self.old.machine }
@@ -135,12 +149,7 @@ impl Player<'_> {
                 break;
             }
             'turns: for number in 0..workers {
-                let worker = number + 1;
-                if self.machine.holds(worker) {
-                    self.make(case, Choice::Run(worker))?;
-                } else if self.machine.offered() > 0 {
-                    self.make(case, Choice::Steal(worker, 0))?;
-                }
+                self.turn(case, number + 1)?;
             }
         }
         Ok(())

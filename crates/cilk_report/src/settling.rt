@@ -45,7 +45,7 @@ fn usage(alloc: Global, words: &[&str]) -> Result<String, AllocError> {
 }
 
 fn push_wrong(text: &mut String, words: &[&str]) -> Result<(), AllocError> {
-    let (mut is_every, mut is_fixed, mut is_read, mut forms) = (false, false, false, 0);
+    let (mut is_every, mut is_fixed, mut is_read, mut is_formed) = (false, false, false, false);
     let mut awaits = "";
     for word in words.iter().skip(1) {
         if awaits == "--fix" && !is_list(word) {
@@ -57,8 +57,14 @@ fn push_wrong(text: &mut String, words: &[&str]) -> Result<(), AllocError> {
         }
         match *word {
             "--input" if is_read => return text.push_str("`--input` stands there twice"),
+            "--fix" if is_fixed => return text.push_str("`--fix` stands there twice"),
             "--input" | "--fix" => awaits = *word,
-            "--short" | "--json" => forms += 1,
+            "--short" | "--json" if is_formed => {
+                return text.push_str(
+                    "`--short` and `--json` are two forms: one may be named, once",
+                );
+            }
+            "--short" | "--json" => is_formed = true,
             "--every" | "--explain" | "--color" => {}
             other if other.starts_with("--") => {
                 return write!(text, "`settle` has no option `{other}` beside these words");
@@ -72,7 +78,6 @@ fn push_wrong(text: &mut String, words: &[&str]) -> Result<(), AllocError> {
     text.push_str(match awaits {
         "--input" => "`--input` wants a file",
         "--fix" => "`--fix` wants a list of positions such as 0,3..5",
-        _ if forms > 1 => "`--short` and `--json` are two forms: one may be named, once",
         _ if is_fixed && !is_every => "`--fix` goes with `--every` alone",
         _ => "these words name no programs to settle",
     })
