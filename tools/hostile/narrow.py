@@ -163,7 +163,7 @@ def long_orders(room, found):
         program = room.put("long.c", text)
         raced = bounded(room, found, "a long order", is_answer, "settle", program)
         found.must(raced.status == 4, "a race", raced)
-        made = room.put("long.cert", room.call("certify", program).out)
+        made = room.put("long.cert", room.run("certify", program).out)
         for words in (["check", program, made, "--explain"], ["schedule", program, made], ["settle", program, "--every"]):
             bounded(room, found, f"a long order by {words[0]}", is_answer, *words)
 
