@@ -35,6 +35,9 @@ LINE_MARKER = re.compile(r'^# (\d+) "([^"\n]*)"', re.M)
 OPENING = {")": "(", "]": "[", "}": "{"}
 HEADS = ("if", "for", "while", "switch", "constexpr")
 WORDS = re.compile(r"\bcilk_(spawn|scope|reducer)\b")
+# What begins no call.
+OTHER_WORDS = set("if for while do switch else return goto new delete sizeof throw try co_await co_yield co_return".split())
+FUNCTION_NAMES = ("__func__", "__FUNCTION__", "__PRETTY_FUNCTION__")
 INLINED = {"always_inline", "__always_inline__"}
 INLINED_NAME = re.compile(r"\b(?:__always_inline__|always_inline)\b[^;{}]*?\b(?!__attribute__\b)(\w+)\s*\(")
 # Attributes of functions whose accesses, or calls, the compiler then doesn't tell.
@@ -168,6 +171,64 @@ class Marker:
             raise self.fault(i, "cilk_spawn after `,`; give it a statement of its own")
         return left[:-1]
 
+    def refuse_place(self, i, place):
+        """Refuses a place of a result that does more than to name memory: when that is done isn't the same in C and C++."""
+        for k, token in enumerate(place):
+            text, before = token.text, place[k - 1] if k else token
+            is_call = text == "(" and k and (before.kind == "word" or before.text in (")", "]", ">"))
+            if text in ("++", "--") or token.kind == "mark" and re.fullmatch(r"[-+*/%&|^]?=", text):
+                raise self.fault(i, f"`{text}` on the left of cilk_spawn; give it a statement of its own")
+            if is_call and before.text not in ("sizeof", "alignof", "_Alignof"):
+                raise self.fault(i, "a call on the left of cilk_spawn; give it a statement of its own")
+
+    def after_angles(self, k, last):
+        """The token after a list of a template's arguments, or None."""
+        depth = 0
+        while k < last:
+            text = self.tokens[k].text
+            depth += (text == "<") - (text == ">")
+            if depth == 0:
+                return k + 1
+            k = self.partner[k] + 1 if text in ("(", "[", "{") else k + 1
+        return None
+
+    def after_part(self, k, first, last):
+        """The token after one part of what is called, or after its arguments; None where there is an operator."""
+        token = self.tokens[k]
+        if token.kind == "word" and token.text == "operator":
+            return next((j for j in range(k + 1, last) if self.tokens[j].text == "("), None)
+        if token.kind == "word":
+            return None if token.text in OTHER_WORDS else k + 1
+        if token.text == "[" and k == first:  # a lambda, up to its body
+            while k < last and self.tokens[k].text != "{":
+                k = self.partner[k] + 1 if self.tokens[k].text in ("(", "[") else k + 1
+        if self.tokens[k].text in ("(", "[", "{"):
+            return self.partner[k] + 1
+        if token.text == "<" and self.cxx:
+            return self.after_angles(k, last)
+        return k + 1 if token.text in (".", "->", "::", "~") else None
+
+    def is_one_call(self, k, last):
+        """Whether the tokens from `k` to `last` are a call and no more, as `f(x)`, `p->f<int>(x)` or `[&] { .. }()`."""
+        if [t.text for t in self.tokens[k : k + 3]] == ["(", "void", ")"]:
+            k += 3
+        if k >= last or self.tokens[last - 1].text != ")":
+            return False
+        if self.tokens[k].text == "(" and self.partner[k] == last - 1:
+            return self.is_one_call(k + 1, last - 1)
+        first = k
+        while k is not None and k < last:
+            k = self.after_part(k, first, last)
+        return k == last
+
+    def refuse_names(self, first, last):
+        """Refuses a function's own name: in C++ the statement is the body of a lambda."""
+        k = first
+        while k < last:
+            if self.tokens[k].text in FUNCTION_NAMES:
+                raise self.fault(k, f"{self.tokens[k].text} in a statement with cilk_spawn; keep it in a variable before")
+            k = self.partner[k] + 1 if self.tokens[k].text == "{" else k + 1
+
     def refuse_inlined(self, i, last):
         """Refuses a spawn in a function that the compiler puts into another one, whose frame it would have, and with clang
         one of such a function, which has no hooks there."""
@@ -191,6 +252,14 @@ class Marker:
         elif self.clang:  # so that the stack has no fixed room for arguments: they come to lie below the mark
             begin = "(void)__builtin_alloca(cilkrec_spawn_begin()); "
         declares = self.declares(place)
+        if declares:
+            self.refuse_variables(i, last)
+        else:
+            self.refuse_place(i, place)
+        if not self.is_one_call(i + 1, last):
+            raise self.fault(i, "cilk_spawn of more than a call; give that call a statement of its own")
+        if self.cxx:
+            self.refuse_names(first, last)
         if declares or len(place) == 1:
             into = f" cilkrec_spawn_into((void *)&{place[-1].text}, sizeof({place[-1].text}));"
         elif place:
@@ -217,8 +286,8 @@ class Marker:
             kept = [w for w in words if w not in ("static", "constexpr", "register", "thread_local", "extern", "inline")]
         return " ".join(kept)
 
-    def mark_declaration(self, i, first, last, begin, into):
-        """The marks of a spawn whose result is a variable's first value."""
+    def refuse_variables(self, i, last):
+        """Refuses a declaration of more variables."""
         k, angles = i + 1, 0
         while k < last:
             text = self.tokens[k].text
@@ -226,6 +295,9 @@ class Marker:
             if text == "," and angles == 0:
                 raise self.fault(i, "a declaration goes on after cilk_spawn; declare one variable")
             k = self.partner[k] + 1 if text in ("(", "[", "{") else k + 1
+
+    def mark_declaration(self, i, first, last, begin, into):
+        """The marks of a spawn whose result is a variable's first value."""
         if self.cxx:
             self.insert(self.tokens[i].start, f"{LAMBDA}-> {self.type_of(first, i)} {{ {begin}return ")
             self.insert(self.tokens[last].start, "; }()")
