@@ -29,7 +29,7 @@ int main() {
   cilk_spawn (a + 6)->self()->template by<int>(1);
   cilk_spawn both<int, long>(1, 0, &n[7]);
   cilk_spawn (*pointer)(n + 8);
-  cilk_spawn (n[0] > 5 ? pointer : &inner::set)(n + 9);
+  cilk_spawn (pointer ? pointer : &inner::set)(n + 9);
   cilk_spawn [&]() mutable -> void { assert(n[10] == 0); n[10] = 1; }();
   SPAWN((::set(n + 11)));
   (void)cilk_spawn (void)::inner::set(n + 12);
