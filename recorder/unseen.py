@@ -49,15 +49,17 @@ HARMLESS = re.compile(
     r"|round|trunc|fmod|hypot|f(min|max|dim|ma)|[il]+round|l+rint|rint|erfc?|nearbyint)[fl]?|isnan|isinf|fesetround"
     r"|raise|kill|alarm|__libc_single_threaded|longjmp|_?longjmp|siglongjmp|_?_?(sig)?setjmp|__main|main|__errno_location"
     r"|__(tsan|asan)_\w+|__cyg_profile_func_\w+|cilkrec_\w+|__stack_chk_fail|_GLOBAL_OFFSET_TABLE_|__dso_handle"
-    r"|__cxa_\w+|_Unwind_\w+|__gxx_personality_v0|_Z(dl|da|nw|na)Pv\w*|_Z(nw|na)m\w*|_ZSt9terminatev|_ZTV\w+|_ZTI\w+"
-    r"|_ZNK?Sa\w+|_ZNSt15__new_allocator\w+|_ZNSt9exceptionD\dEv|_ZNSt\d+(\w+_error|bad_\w+)[CD]\dE\w*|_ZNSt8ios_base4Init\w+"
-    r"|_ZNKSt9basic_iosI\w+|_ZSt(4(cout|cerr|clog)|3cin)|_ZSt17__throw_\w+|_ZNSt6locale\w+|_ZTTN?St\w+|_ZTHN?\w+"
-    r"|__start_\w+|__stop_\w+|_ZNSt8ios_base4InitC1Ev|_ZNSt8ios_base4InitD1Ev|_ZSt\d+__throw_\w+|__tls_get_addr)$"
+    r"|__cxa_((thread_)?atexit|finalize|guard_\w+|allocate_exception|free_exception|throw|rethrow|begin_catch|end_catch"
+    r"|get_exception_ptr|init_primary_exception|bad_cast|bad_typeid|pure_virtual|deleted_virtual|throw_bad_array\w*"
+    r"|call_unexpected)|_Unwind_\w+|__gxx_personality_v0|_Z(dl|da|nw|na)Pv\w*|_Z(nw|na)m\w*|_ZSt9terminatev|_ZTV\w+|_ZTI\w+"
+    r"|_ZNK?Sa\w+|_ZNSt15__new_allocator\w+|_ZNSt9exceptionD\dEv|_ZNSt\d+bad_\w+[CD]\dEv|_ZNSt8ios_base4Init\w+"
+    r"|_ZSt(4(cout|cerr|clog)|3cin)|_ZTTN?St\w+|_ZTHN?\w+|__start_\w+|__stop_\w+|_ZSt\d+__throw_\w+|__tls_get_addr)$"
 )
-# Parts of libstdc++ in runtime/containers.cc, and streams, which runtime/others.c follows.
+# Parts of libstdc++ in runtime/containers.cc, and classes that runtime/classes.c follows.
 CONTAINERS = re.compile(r"_ZSt\d+_Rb_tree_(in|de)crement|_ZSt\d+_Rb_tree_(insert_and_rebalance|rebalance_for_erase)"
                         r"|_ZNSt8__detail15_List_node_base(4swap|7_M_hook|9_M_unhook|10_M_reverse|11_M_transfer)E")
-STREAMS = re.compile(r"_ZN?K?S[iod]|basic_[io]?(string|f)?stream|basic_ios|ios_base|_ZSt4(cout|cerr|clog)$|_ZSt3cin$")
+FOLLOWED = re.compile(r"_ZN?K?S[iod]|basic_[io]?(string|f)?stream|basic_ios|ios_base|_ZSt4(cout|cerr|clog)$|_ZSt3cin$"
+                      r"|_ZNK?St\d+(\w+_error|invalid_argument|out_of_range)(C|D|aS|4what)|_ZNSt6locale(C|D|aS|7classic)")
 SHOWN = 8
 ATOMIC = "an atomic operation"  # as runtime/late.c names it
 
@@ -373,7 +375,7 @@ def notes(outside, shared):
     found = [f"lib{name} isn't recorded" if ".so" not in name else f"{name} isn't recorded" for name in shared]
     if any(LOCKS.match(n) for n in outside):
         found.append("locks order nothing in a trace: accesses under one lock still race")
-    names = sorted(set(readable([n for n in unmodelled(outside) if not STREAMS.search(n)])))
+    names = sorted(set(readable([n for n in unmodelled(outside) if not FOLLOWED.search(n)])))
     if names:
         more = f" and {len(names) - SHOWN} more" if len(names) > SHOWN else ""
         found.append("not recorded is what these functions of libraries read and write: "

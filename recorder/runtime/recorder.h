@@ -15,8 +15,8 @@
  *
  * trace.c writes lines and keeps the filter, frames.c follows calls, spawns and exceptions, accesses.c has reads, writes,
  * the heap and reducers, libc.c models of libc's functions, vectors.c loads and stores by masks, loops.c `cilk_for`,
- * places.c names of functions and places, late.c what a recording can't hold, others.c calls of libraries, look.c the
- * second run of `cilkrec run`, start.c begins and ends the recording. calls.cc is gcc's plugin, containers.cc libstdc++'s
+ * places.c names of functions and places, late.c what a recording can't hold, others.c calls of libraries, classes.c
+ * those of libstdc++'s classes that it follows, models.h what models use, look.c the second run of `cilkrec run`, start.c begins and ends the recording. calls.cc is gcc's plugin, containers.cc libstdc++'s
  * trees and lists; they are compiled apart.
  */
 #ifndef CILKREC_RECORDER_H
@@ -154,6 +154,7 @@ void begin_candidate(uint64_t site);
 
 void retire_locals(void);
 bool library_begin(const void *at);
+bool is_followed(const char *name, const uint64_t *arguments, const void *at);
 void library_end(bool is_frame);
 void library_calls(bool spawning);
 void library_access(enum kind kind, const void *p, uint64_t size, const void *at);

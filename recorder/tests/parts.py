@@ -394,6 +394,35 @@ def told_calls(folder, compiler):
         return "unasked" if "unseen" in (e[0] for e in cilktrace.events(f)) else None
 
 
+CLASSES = """#include <cxxabi.h>
+#include <sstream>
+#include <stdexcept>
+int g, status;
+void f() { g = 1; }
+std::stringstream in("1 2"), out;
+int main() {
+  cilk_spawn f();
+  std::runtime_error e(in.str());
+  out << in.rdbuf();
+  free(abi::__cxa_demangle("_Z1fv", 0, 0, &status));
+  cilk_sync;
+  return !out.good();
+}
+"""
+
+
+def told_classes(folder, compiler):
+    """Of libstdc++'s classes the functions that aren't followed are told, others not."""
+    with open(os.path.join(folder, "p.cpp"), "w", encoding="utf-8") as f:
+        f.write("#include <cilk/cilk.h>\n" + CLASSES)
+    wrong = judged(folder, compiler, "race-free", "p.cpp")
+    if wrong:
+        return wrong
+    done = call(["./prog"], folder, CILK_TRACE="trace", CILK_SITES="sites", CILK_TRACE_UNSEEN="1")
+    names = [name.split("(")[0] for name in unseen_names(folder)]
+    return None if len(names) == 2 and names[1] == "__cxa_demangle" and "operator<<" in names[0] else f"{names} {done.stderr}"
+
+
 VALUES = """static void zero(void *v) { *(int *)v = 0; }
 static void plus(void *l, void *r) { *(int *)l += *(int *)r; }
 int cilk_reducer(zero, plus) s, x;
@@ -453,6 +482,7 @@ def build():
     yield "without gcc's plugin", without_plugin, ()
     for compiler in ("gcc", "clang"):
         yield f"calls {compiler}", told_calls, (compiler,)
+        yield f"classes {compiler}", told_classes, (compiler.replace("gcc", "g++").replace("clang", "clang++"),)
     for compilers in (("gcc", "g++"), ("clang", "clang++"), ("gcc", "clang++")):
         for spread, want in ((0, "race-free"), (1, "race")):
             yield f"Makefile {'+'.join(compilers)} {want}", made, (compilers, spread, want)
