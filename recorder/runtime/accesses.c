@@ -138,22 +138,73 @@ static struct reducer *find_reducer(struct reducers *list, uintptr_t address)
  * does to it, and to memory that it allocates, comes before all that they do. */
 
 struct guarded { uintptr_t from, to; };
-enum { MOST_GUARDED = 256 };
-static struct guarded guarded[MOST_GUARDED];
-static int guarded_count;
+static struct guarded *guarded; /* in the order of their begins */
+static size_t guarded_count, guarded_room;
+extern void *__libc_realloc(void *, size_t);
+extern char __data_start[], _end[]; /* of the program's static variables */
+
+/* How many begin at an address or below it. */
+static size_t guarded_up_to(uintptr_t address)
+{
+    size_t low = 0, high = guarded_count;
+
+    while (low < high) {
+        size_t middle = (low + high) / 2;
+        if (guarded[middle].from <= address)
+            low = middle + 1;
+        else
+            high = middle;
+    }
+    return low;
+}
 
 static bool is_guarded(uintptr_t address)
 {
-    for (int i = 0; i < guarded_count; i++)
-        if (address - guarded[i].from < guarded[i].to - guarded[i].from)
-            return true;
-    return false;
+    size_t n = guarded_up_to(address);
+
+    return n && address < guarded[n - 1].to;
+}
+
+static bool has_guarded_room(void)
+{
+    if (guarded_count < guarded_room)
+        return true;
+    size_t room = guarded_room ? 2 * guarded_room : 256;
+    struct guarded *more = __libc_realloc(guarded, room * sizeof *more);
+    if (!more) {
+        give_up("no memory");
+        return false;
+    }
+    guarded = more;
+    guarded_room = room;
+    return true;
 }
 
 static void add_guarded(uintptr_t address, size_t size)
 {
-    if (guarded_count < MOST_GUARDED)
-        guarded[guarded_count++] = (struct guarded){address, address + size};
+    size_t n = guarded_up_to(address);
+
+    if (n && guarded[n - 1].from == address) { /* a block that was freed */
+        guarded[n - 1].to = address + size;
+        return;
+    }
+    if (!has_guarded_room())
+        return;
+    for (size_t i = guarded_count++; i > n; i--)
+        guarded[i] = guarded[i - 1];
+    guarded[n] = (struct guarded){address, address + size};
+}
+
+/* Whether an initialiser's access isn't written. What it writes to other static variables comes before all uses by those that
+   wait for it; others may use them too, so that is told. */
+static bool is_first_use(enum kind kind, uintptr_t address, const void *return_address)
+{
+    if (is_guarded(address))
+        return true;
+    if (kind != WRITE || address - (uintptr_t)__data_start >= (uintptr_t)(_end - __data_start))
+        return false;
+    keep_unseen("what a static variable's initialiser writes elsewhere", site_before(return_address));
+    return true;
 }
 
 extern int __real___cxa_guard_acquire(uint64_t *guard) __attribute__((weak));
@@ -210,7 +261,7 @@ static inline bool repeats(enum kind kind, uintptr_t address, uint64_t size)
 /* Whether an access isn't written, whatever the filter says. */
 static bool is_other(enum kind kind, uintptr_t address, const void *return_address)
 {
-    if (address - own_low < own_size || unlikely(guards && is_guarded(address)))
+    if (address - own_low < own_size || unlikely(guards && is_first_use(kind, address, return_address)))
         return true;
     if (unlikely(global_reducers.n + local_reducers.n + operations)) {
         if (operations)
@@ -440,7 +491,6 @@ void __wrap_qsort(void *base, size_t n, size_t size, int (*compare)(const void *
 
 extern void *__libc_malloc(size_t);
 extern void *__libc_calloc(size_t, size_t);
-extern void *__libc_realloc(void *, size_t);
 extern void *__libc_memalign(size_t, size_t);
 extern void __libc_free(void *);
 

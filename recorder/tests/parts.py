@@ -529,7 +529,7 @@ def is_late(folder, compiler, path):
         return wrong
     done = call(["./prog"], folder, CILK_TRACE="trace", CILK_SITES="sites", CILK_TRACE_UNSEEN="1")
     with open(path, encoding="utf-8") as f:
-        want = set() if path.endswith("_free.c") else {f.readline().split(": ")[1].strip()}
+        want = set() if "_free." in path else {f.readline().split(": ")[1].strip()}
     if set(unseen_names(folder)) != want or bool(want) != ("not recorded, while" in done.stderr):
         return f"{unseen_names(folder)} {done.stderr[:600]}"
     return None if done.returncode == call(["./prog"], folder).returncode == 0 else f"status {done.returncode}"
@@ -539,8 +539,8 @@ def late():
     """What a recording can't hold: not told where nothing is parallel, else a line `unseen` for each place."""
     with open("/proc/cpuinfo", encoding="ascii", errors="replace") as f:
         has_masks = " avx512f" in f.read()
-    for path in sorted(glob.glob(os.path.join(HERE, "late", "*.c"))):
-        for compiler in ("gcc", "clang"):
+    for path in sorted(glob.glob(os.path.join(HERE, "late", "*.c*"))):
+        for compiler in ("g++", "clang++") if path.endswith(".cpp") else ("gcc", "clang"):
             name = os.path.basename(path)
             if name == "maskmove.c" and compiler == "gcc":
                 continue  # it makes that of operations that are recorded
