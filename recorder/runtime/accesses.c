@@ -1,10 +1,12 @@
-/* Reads and writes: of the program's own text, of a few functions of libc, of the heap; and reducers. */
+/* Reads and writes: of the program's own text, and of the heap; and reducers. */
 #define _GNU_SOURCE
 #include <errno.h>
 #include <malloc.h>
 #include <stdlib.h>
 #include <string.h>
 #include "recorder.h"
+
+extern void *__libc_realloc(void *, size_t);
 
 /* ---- Reducers. Those of classes hold their number; those by keyword are variables, known by their addresses. */
 
@@ -140,7 +142,6 @@ static struct reducer *find_reducer(struct reducers *list, uintptr_t address)
 struct guarded { uintptr_t from, to; };
 static struct guarded *guarded; /* in the order of their begins */
 static size_t guarded_count, guarded_room;
-extern void *__libc_realloc(void *, size_t);
 extern char __data_start[], _end[]; /* of the program's static variables */
 
 /* How many begin at an address or below it. */
@@ -404,7 +405,7 @@ void cilkrec_spawn_into(void *place, size_t size)
     access_cells(WRITE, (uintptr_t)place, size, RETURN_ADDRESS);
 }
 
-/* ---- Functions of libc that are recorded by what they read and write. Spawned directly they are frames, too. */
+/* ---- For models.h: functions of libraries. Spawned directly they are frames, too. */
 
 static bool begin_library_call(const void *return_address)
 {
@@ -422,7 +423,6 @@ static void end_library_call(bool is_frame)
     }
 }
 
-/* The same for the models of libc.c. */
 bool library_begin(const void *at) { return begin_library_call(at); }
 void library_end(bool is_frame) { end_library_call(is_frame); }
 void library_calls(bool spawning)
@@ -434,57 +434,6 @@ void library_access(enum kind kind, const void *p, uint64_t size, const void *at
 {
     if (size)
         access_cells(kind, (uintptr_t)p, size, at);
-}
-
-#define LIBRARY(TYPE, NAME, PARAMETERS, ARGUMENTS, ACCESSES) \
-    extern TYPE __real_##NAME PARAMETERS; \
-    TYPE __wrap_##NAME PARAMETERS \
-    { \
-        const void *at = RETURN_ADDRESS; \
-        bool is_frame = begin_library_call(at); \
-        ACCESSES \
-        TYPE result = __real_##NAME ARGUMENTS; \
-        end_library_call(is_frame); \
-        return result; \
-    }
-#define READS(P, N) access_cells(READ, (uintptr_t)(P), (N), at);
-#define WRITES(P, N) access_cells(WRITE, (uintptr_t)(P), (N), at);
-
-LIBRARY(void *, memcpy, (void *to, const void *from, size_t n), (to, from, n), READS(from, n) WRITES(to, n))
-LIBRARY(void *, memmove, (void *to, const void *from, size_t n), (to, from, n), READS(from, n) WRITES(to, n))
-LIBRARY(void *, memset, (void *to, int value, size_t n), (to, value, n), WRITES(to, n))
-LIBRARY(int, memcmp, (const void *a, const void *b, size_t n), (a, b, n), READS(a, n) READS(b, n))
-LIBRARY(size_t, strlen, (const char *s), (s), READS(s, __real_strlen(s) + 1))
-static size_t equal_part(const char *a, const char *b)
-{
-    size_t n = 0;
-
-    while (a[n] && a[n] == b[n])
-        n++;
-    return n;
-}
-LIBRARY(int, strcmp, (const char *a, const char *b), (a, b),
-        READS(a, equal_part(a, b) + 1) READS(b, equal_part(a, b) + 1))
-LIBRARY(char *, strcpy, (char *to, const char *from), (to, from),
-        READS(from, __real_strlen(from) + 1) WRITES(to, __real_strlen(from) + 1))
-void *__asan_memcpy(void *to, const void *from, size_t n) __attribute__((alias("__wrap_memcpy")));
-void *__asan_memmove(void *to, const void *from, size_t n) __attribute__((alias("__wrap_memmove")));
-void *__asan_memset(void *to, int value, size_t n) __attribute__((alias("__wrap_memset")));
-
-extern void __real_qsort(void *, size_t, size_t, int (*)(const void *, const void *));
-void __wrap_qsort(void *base, size_t n, size_t size, int (*compare)(const void *, const void *))
-{
-    const void *at = RETURN_ADDRESS;
-    bool is_frame = begin_library_call(at), spawning = frames && frames[depth].spawning;
-
-    READS(base, n * size)
-    WRITES(base, n * size)
-    if (is_frame)
-        frames[depth].spawning = false; /* calls of `compare` are no candidates */
-    __real_qsort(base, n, size, compare);
-    if (is_frame)
-        frames[depth].spawning = spawning;
-    end_library_call(is_frame);
 }
 
 /* ---- The heap: an allocation is of new cells, and freeing a block counts as a write of it. */

@@ -20,6 +20,40 @@
 
 /* ---- string.h, strings.h, wchar.h */
 
+/* Compilers call these for structures, too, so they are needed where a program has its own by these names. */
+void *copied(void *to, const void *from, size_t n)
+{
+    char *t = to;
+    const char *f = from;
+
+    if (t <= f)
+        for (size_t i = 0; i < n; i++)
+            t[i] = f[i];
+    else
+        for (size_t i = n; i > 0; i--)
+            t[i - 1] = f[i - 1];
+    return to;
+}
+
+static void *filled(void *to, int value, size_t n)
+{
+    for (size_t i = 0; i < n; i++)
+        ((char *)to)[i] = (char)value;
+    return to;
+}
+
+MODEL_AS(void *, memcpy, (__real_memcpy ? __real_memcpy : copied), (void *to, const void *from, size_t n), (to, from, n),
+         R(from, n) W(to, n), )
+MODEL_AS(void *, memmove, (__real_memmove ? __real_memmove : copied), (void *to, const void *from, size_t n), (to, from, n),
+         R(from, n) W(to, n), )
+MODEL_AS(void *, memset, (__real_memset ? __real_memset : filled), (void *to, int value, size_t n), (to, value, n), W(to, n), )
+void *__asan_memcpy(void *to, const void *from, size_t n) __attribute__((alias("__wrap_memcpy")));
+void *__asan_memmove(void *to, const void *from, size_t n) __attribute__((alias("__wrap_memmove")));
+void *__asan_memset(void *to, int value, size_t n) __attribute__((alias("__wrap_memset")));
+MODEL(int, memcmp, (const void *a, const void *b, size_t n), (a, b, n), R(a, n) R(b, n), )
+MODEL(size_t, strlen, (const char *s), (s), , R(s, result + 1))
+MODEL(int, strcmp, (const char *a, const char *b), (a, b), size_t k = compared(a, b, SIZE_MAX, false); R(a, k) R(b, k), )
+MODEL(char *, strcpy, (char *to, const char *from), (to, from), size_t k = length(from) + 1; R(from, k) W(to, k), )
 #define REACHED(S, N) R(S, result ? (const char *)result - (const char *)(S) + 1 : (N))
 MODEL(void *, memchr, (const void *s, int c, size_t n), (s, c, n), , REACHED(s, n))
 MODEL(void *, memrchr, (const void *s, int c, size_t n), (s, c, n), R(s, n), )
@@ -179,21 +213,22 @@ MODEL(float, lgammaf, (float x), (x), , if (&signgam) W(&signgam, 4))
     }
 CALLING(void *, bsearch, (const void *key, const void *base, size_t n, size_t size, int (*f)(const void *, const void *)),
         (key, base, n, size, f), )
-extern void __real_qsort_r(void *, size_t, size_t, int (*)(const void *, const void *, void *), void *) __attribute__((weak));
-void __wrap_qsort_r(void *base, size_t n, size_t size, int (*f)(const void *, const void *, void *), void *more)
-{
-    const void *at = RETURN_ADDRESS;
-    bool is_frame = library_begin(at), spawning = frames && frames[depth].spawning;
-
-    R(base, n * size)
-    W(base, n * size)
-    if (is_frame)
-        library_calls(false);
-    __real_qsort_r(base, n, size, f, more);
-    if (is_frame)
-        library_calls(spawning);
-    library_end(is_frame);
-}
+#define SORTING(NAME, PARAMETERS, ARGUMENTS) \
+    extern void __real_##NAME PARAMETERS __attribute__((weak)); \
+    void __wrap_##NAME PARAMETERS \
+    { \
+        const void *at = RETURN_ADDRESS; \
+        bool is_frame = library_begin(at), spawning = frames && frames[depth].spawning; \
+        R(base, n * size) \
+        W(base, n * size) \
+        if (is_frame) library_calls(false); \
+        __real_##NAME ARGUMENTS; \
+        if (is_frame) library_calls(spawning); \
+        library_end(is_frame); \
+    }
+SORTING(qsort, (void *base, size_t n, size_t size, int (*f)(const void *, const void *)), (base, n, size, f))
+SORTING(qsort_r, (void *base, size_t n, size_t size, int (*f)(const void *, const void *, void *), void *more),
+        (base, n, size, f, more))
 
 /* ---- time.h and its kin. Those that return a static result write it. */
 

@@ -150,10 +150,11 @@ struct frame *push(uintptr_t base, uintptr_t top, uintptr_t function);
 void end_frame(void);
 void begin_candidate(uint64_t site);
 
-/* ---- accesses.c, places.c */
+/* ---- accesses.c, places.c, libc.c, classes.c */
 
 void retire_locals(void);
 bool library_begin(const void *at);
+void *copied(void *to, const void *from, size_t n);
 bool is_followed(const char *name, const uint64_t *arguments, const void *at);
 void library_end(bool is_frame);
 void library_calls(bool spawning);
