@@ -42,7 +42,7 @@ LOCKS = re.compile(r"(pthread_(mutex|rwlock|spin|cond|barrier)_|mtx_|sem_)")
 # Functions of libc that touch no memory of the program's, beside those that the runtime models.
 HARMLESS = re.compile(
     r"(putchar|getchar|_?exit|abort|atexit|__assert_fail|malloc|calloc|realloc|free|memalign|aligned_alloc"
-    r"|posix_memalign|clock|sysconf|getpid|getppid|std(in|out|err)|environ|alloca|sleep|usleep|sched_yield|isatty"
+    r"|posix_memalign|p?valloc|clock|sysconf|getpid|getppid|std(in|out|err)|environ|alloca|sleep|usleep|sched_yield|isatty"
     r"|close|dup2?|lseek(64)?|fileno|is(alnum|alpha|digit|space|upper|lower|print|punct|xdigit)|to(upper|lower)"
     r"|__ctype_\w+_loc|difftime|l?l?div|getpagesize|__getauxval|fegetround|strerror|strsignal"
     r"|abs|labs|(f?abs|sqrt|cbrt|exp2?|expm1|log(2|10|1p)?|pow|sin|cos|tan|a(sin|cos|tan2?)|sinh|cosh|tanh|floor|ceil"

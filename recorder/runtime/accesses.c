@@ -466,6 +466,10 @@ void *calloc(size_t n, size_t size) { return new_block(__libc_calloc(n, size), R
 void *memalign(size_t alignment, size_t n) { return new_block(__libc_memalign(alignment, n), RETURN_ADDRESS); }
 void *aligned_alloc(size_t alignment, size_t n) { return new_block(__libc_memalign(alignment, n), RETURN_ADDRESS); }
 
+enum { PAGE = 4096 };
+void *valloc(size_t n) { return new_block(__libc_memalign(PAGE, n), RETURN_ADDRESS); }
+void *pvalloc(size_t n) { return new_block(__libc_memalign(PAGE, (n + PAGE - 1) & -(size_t)PAGE), RETURN_ADDRESS); }
+
 int posix_memalign(void **place, size_t alignment, size_t n)
 {
     void *p = new_block(__libc_memalign(alignment, n), RETURN_ADDRESS);

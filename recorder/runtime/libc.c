@@ -8,6 +8,7 @@
 #include <stdarg.h>
 #include <stdlib.h>
 #include <string.h>
+#include <sys/mman.h>
 #include <sys/resource.h>
 #include <sys/stat.h>
 #include <sys/time.h>
@@ -94,14 +95,48 @@ MODEL(char *, strpbrk, (const char *s, const char *set), (s, set), RS(set), REAC
 MODEL(char *, strdup, (const char *s), (s), RS(s), )
 MODEL(char *, __strdup, (const char *s), (s), RS(s), )
 MODEL(char *, strndup, (const char *s, size_t n), (s, n), RSN(s, n), )
+static bool has(const char *signs, char c)
+{
+    while (*signs && *signs != c)
+        signs++;
+    return *signs;
+}
+
+/* The next word of a text: it is read up to the delimiter behind it, which is written. What is left after it. */
+static char *tell_word(const char *s, const char *set, const void *at)
+{
+    size_t from = 0, to;
+
+    RS(set)
+    while (s[from] && has(set, s[from]))
+        from++;
+    for (to = from; s[to] && !has(set, s[to]); to++)
+        ;
+    R(s, to + 1)
+    if (to > from && s[to])
+        W(s + to, 1)
+    return (char *)s + to + (to > from && s[to]);
+}
 /* What lies between two calls is kept in libc: a cell of its own stands for it. */
-static char strtok_state;
-MODEL(char *, strtok, (char *s, const char *set), (s, set), RS(set) W(&strtok_state, 1) RS(s),
-      if (result) { R(result, length(result) + 1) W(result + length(result), 1) })
-MODEL(char *, strtok_r, (char *s, const char *set, char **left), (s, set, left), RS(set) if (!s) R1(left) RS(s),
-      W1(left) if (result) { R(result, length(result) + 1) W(result + length(result), 1) })
-MODEL(char *, __strtok_r, (char *s, const char *set, char **left), (s, set, left), RS(set) if (!s) R1(left) RS(s),
-      W1(left) if (result) { R(result, length(result) + 1) W(result + length(result), 1) })
+static char strtok_state, *strtok_left;
+extern char *__real_strtok(char *, const char *) __attribute__((weak));
+char *__wrap_strtok(char *s, const char *set)
+{
+    const void *at = RETURN_ADDRESS;
+    bool is_frame = library_begin(at);
+    char *from = s ? s : strtok_left;
+
+    W(&strtok_state, 1)
+    if (from)
+        strtok_left = tell_word(from, set, at);
+    char *result = __real_strtok(s, set);
+    library_end(is_frame);
+    return result;
+}
+#define WORDS(NAME) \
+    MODEL(char *, NAME, (char *s, const char *set, char **left), (s, set, left), \
+          if (!s) R1(left) W1(left) if (s || *left) tell_word(s ? s : *left, set, at);, )
+WORDS(strtok_r) WORDS(__strtok_r)
 MODEL(char *, strsep, (char **s, const char *set), (s, set), RS(set) R1(s),
       W1(s) if (result) { R(result, length(result) + 1) if (*s) W(*s - 1, 1) })
 MODEL(char *, strerror_r, (int error_number, char *to, size_t n), (error_number, to, n), , if (result == to) W(to, length(to) + 1))
@@ -119,7 +154,7 @@ MODEL(int, wcscmp, (const wchar_t *a, const wchar_t *b), (a, b),
       size_t k = 0; while (a[k] && a[k] == b[k]) k++; R(a, WIDE(k + 1)) R(b, WIDE(k + 1)), )
 MODEL(int, wcsncmp, (const wchar_t *a, const wchar_t *b, size_t n), (a, b, n),
       size_t k = 0; while (k < n && a[k] && a[k] == b[k]) k++; if (k < n) k++; R(a, WIDE(k)) R(b, WIDE(k)), )
-MODEL(wchar_t *, wcschr, (const wchar_t *s, wchar_t c), (s, c), R(s, WIDE(wide_length(s) + 1)), )
+MODEL(wchar_t *, wcschr, (const wchar_t *s, wchar_t c), (s, c), , R(s, WIDE((result ? (size_t)(result - s) : wide_length(s)) + 1)))
 MODEL(wchar_t *, wcsrchr, (const wchar_t *s, wchar_t c), (s, c), R(s, WIDE(wide_length(s) + 1)), )
 MODEL(wchar_t *, wcsdup, (const wchar_t *s), (s), R(s, WIDE(wide_length(s) + 1)), )
 MODEL(wchar_t *, wmemcpy, (wchar_t *to, const wchar_t *from, size_t n), (to, from, n), R(from, WIDE(n)) W(to, WIDE(n)), )
@@ -127,7 +162,8 @@ MODEL(wchar_t *, wmemmove, (wchar_t *to, const wchar_t *from, size_t n), (to, fr
 MODEL(wchar_t *, wmempcpy, (wchar_t *to, const wchar_t *from, size_t n), (to, from, n), R(from, WIDE(n)) W(to, WIDE(n)), )
 MODEL(wchar_t *, wmemset, (wchar_t *to, wchar_t c, size_t n), (to, c, n), W(to, WIDE(n)), )
 MODEL(int, wmemcmp, (const wchar_t *a, const wchar_t *b, size_t n), (a, b, n), R(a, WIDE(n)) R(b, WIDE(n)), )
-MODEL(wchar_t *, wmemchr, (const wchar_t *s, wchar_t c, size_t n), (s, c, n), R(s, WIDE(n)), )
+MODEL(wchar_t *, wmemchr, (const wchar_t *s, wchar_t c, size_t n), (s, c, n), ,
+      R(s, WIDE(result ? (size_t)(result - s) + 1 : n)))
 
 /* ---- stdlib.h, math.h */
 
@@ -176,7 +212,8 @@ NUMBER(unsigned long, __isoc23_strtoul) NUMBER(unsigned long long, __isoc23_strt
         return result; \
     }
 REAL_NUMBER(double, strtod) REAL_NUMBER(float, strtof) REAL_NUMBER(long double, strtold)
-MODEL(double, atof, (const char *s), (s), RS(s), )
+MODEL(double, atof, (const char *s), (s), char *after; if (__real_strtod) __real_strtod(s, &after); else after = (char *)s;
+      R(s, after - s + 1), )
 MODEL(int, rand_r, (unsigned *seed), (seed), R1(seed) W1(seed), )
 extern char **environ;
 MODEL(char *, getenv, (const char *name), (name), RS(name) R(&environ, 8), )
@@ -267,6 +304,25 @@ MODEL(ssize_t, writev, (int fd, const struct iovec *v, int n), (fd, v, n),
 MODEL(ssize_t, readv, (int fd, const struct iovec *v, int n), (fd, v, n), R(v, (size_t)n * sizeof *v),
       ssize_t left = result; for (int i = 0; i < n && left > 0; i++) {
           size_t k = (size_t)left < v[i].iov_len ? (size_t)left : v[i].iov_len; W(v[i].iov_base, k) left -= (ssize_t)k; })
+/* What is mapped is new memory, and what ends is written, as a block that is freed: there may be much that no line names. */
+enum { PAGE_BYTES = 4096 };
+static void tell_map(enum kind kind, const void *p, size_t n, const void *at)
+{
+    uintptr_t from = (uintptr_t)p, to = from + n;
+
+    while (!is_writing && (from = named_page(from, to)) < to) {
+        uintptr_t next = from + PAGE_BYTES < to ? from + PAGE_BYTES : to;
+        if (kind == CLEAR)
+            put_cells(CLEAR, from, next - from, 0);
+        else
+            W(from, next - from)
+        from = next;
+    }
+}
+#define NEW_MAP if (result != MAP_FAILED) tell_map(CLEAR, result, n, at);
+MODEL(void *, mmap, (void *p, size_t n, int how, int flags, int fd, off_t from), (p, n, how, flags, fd, from), , NEW_MAP)
+MODEL(void *, mmap64, (void *p, size_t n, int how, int flags, int fd, off_t from), (p, n, how, flags, fd, from), , NEW_MAP)
+MODEL(int, munmap, (void *p, size_t n), (p, n), tell_map(WRITE, p, n, at);, )
 MODEL(int, pipe, (int *to), (to), , if (!result) W(to, 8))
 MODEL(int, stat, (const char *path, struct stat *to), (path, to), RS(path), W1(to))
 MODEL(int, lstat, (const char *path, struct stat *to), (path, to), RS(path), W1(to))
@@ -349,13 +405,6 @@ enum { MOST_ARGUMENTS = 64 };
 struct conversion { char sign; int size, argument, width, precision; bool is_long, is_kept; };
 struct format { struct conversion at[MOST_ARGUMENTS]; int n; enum type types[MOST_ARGUMENTS + 1]; bool is_known; };
 union value { long long word; void *pointer; };
-
-static bool has(const char *signs, char c)
-{
-    while (*signs && *signs != c)
-        signs++;
-    return *signs;
-}
 
 static int digits(const char **p)
 {

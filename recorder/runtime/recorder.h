@@ -72,6 +72,7 @@ void put_end(void);
 void put_unseen(uint64_t site);
 void put_cells(enum kind kind, uintptr_t address, uint64_t size, uint64_t site);
 void clear_stack(uintptr_t low, uintptr_t high);
+uintptr_t named_page(uintptr_t from, uintptr_t to);
 
 /* A place of the text that accesses memory: one record for each, in the program's data (inline.py). */
 struct site {
