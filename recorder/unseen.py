@@ -13,8 +13,8 @@ ENTER = "__cyg_profile_func_enter"
 GUARD = "_ZGV"  # of a function's static variable: the compiler's own atomic read
 IR_ATOMIC = re.compile(r"\b(load atomic|store atomic|cmpxchg|atomicrmw|fence) ")
 IR_VECTOR = re.compile(
-    r"\bcall .*@llvm\.(masked\.(gather|scatter|expandload|compressstore)"
-    r"|x86\.(avx512[\w.]*(gather|scatter|mask\.(expand|compress))|[\w.]*(scatter|maskmovq|rdrand|rdseed)))"
+    r"\bcall .*@llvm\.(masked\.(gather|scatter|expandload|compressstore)|x86\.(rdrand|rdseed)"
+    r"|x86\.(?![\w.]*(clflush|clwb|monitor|prefetch|(ld|st)mxcsr))[\w.]+\([^)]*(\*|\bptr\b))"
 )
 IR_MASKED = re.compile(
     r"\bcall .*@llvm\.x86\.(?:(sse2)\.maskmov\.dqu|avx2?\.mask(load|store)\.\w+(?:\.256)?)\((.*?)\)(?: #\d+)?(, !dbg !\d+)?$"
@@ -87,7 +87,7 @@ def of_ir(line):
         found = IR_ASM.search(line)
         if found and found[1].strip():
             return "assembly"
-    return "vector" if IR_VECTOR.search(line) else None
+    return "vector" if IR_VECTOR.search(line) and not of_elements(line) else None
 
 
 def parts_of(arguments):
@@ -240,7 +240,8 @@ CALL = re.compile(
 )
 # gcc's own names of operations of the processor that read or write memory.
 VECTORS = re.compile(r"__builtin_ia32_(mask(load|store|mov)|gather|scatter|movnt|lddqu|addcarry|sbb|rdrand|rdseed|rdtscp"
-                     r"|(load|store|expand|compress)\w*_mask)")
+                     r"|load|store|expandload|compressstore|\w+mem_mask|movdqa\d+(load|store)|f?xsave|f?xrstor|4f|vp4dpwssd"
+                     r"|vbroadcast(s[sd](256)?|f128_p[sd]256)$|aes(enc|dec)\w*kl|directstore|movdir|enqcmd|clzero|lwp)")
 PASSED = ("__builtin___tsan_", "__tsan_", "cilkrec_", "__cyg_profile", "__complex__", "if", "switch", "register ")
 FUNCTION = re.compile(r";; Function .*\((\w+), funcdef_no=")
 DECLARED = re.compile(r"[\w*] \**(\w+)(?=[;,)])")

@@ -359,6 +359,11 @@ def without_plugin(folder):
         if done.returncode == 0 or "isn't recorded without gcc's plugin" not in done.stderr or (
                 f"{name}:" not in done.stderr and "intrin.h:" not in done.stderr):
             return f"{name} {case}: {done.stderr}"
+    with open(os.path.join(folder, "half.c"), "w", encoding="utf-8") as f:
+        f.write("#include <immintrin.h>\nfloat f[4];\nint main(void) { _mm_storeh_pi((__m64 *)f, _mm_set1_ps(1)); return 0; }\n")
+    done = call([CILKREC, "gcc", "half.c", "-o", "prog"], folder, **env)
+    if done.returncode == 0 or "`__builtin_ia32_storehps` isn't recorded without gcc's plugin" not in done.stderr:
+        return done.stderr
     for name in ("c/libc_free.c", "feat/vector_free.cpp"):
         done = call([CILKREC, "g++" if name.endswith("pp") else "gcc", os.path.join(HERE, name), "-o", "prog"], folder, **env)
         if done.returncode:
