@@ -12,6 +12,7 @@ import sys
 ENTER = "__cyg_profile_func_enter"
 GUARD = "_ZGV"  # of a function's static variable: the compiler's own atomic read
 IR_ATOMIC = re.compile(r"\b(load atomic|store atomic|cmpxchg|atomicrmw|fence) ")
+# Operations of the processor: those that take a pointer, but for those that touch no variable of the program's.
 IR_VECTOR = re.compile(
     r"\bcall .*@llvm\.(masked\.(gather|scatter|expandload|compressstore)|x86\.(rdrand|rdseed)"
     r"|x86\.(?![\w.]*(clflush|clwb|monitor|prefetch|(ld|st)mxcsr))[\w.]+\([^)]*(\*|\bptr\b))"
@@ -39,6 +40,8 @@ OWN_OPENMP = set(
     "__kmpc_omp_task_alloc __kmpc_taskloop".split()
 )
 LOCKS = re.compile(r"(pthread_(mutex|rwlock|spin|cond|barrier)_|mtx_|sem_)")
+# What these give does its work later, out of sight: they are told in series, too.
+LATER = re.compile(r"(dlv?sym|fmemopen|open_w?memstream|fopencookie|_ZNSt3pmr\w+_resource[CD]\dE\w*)$")
 # Functions of libc that touch no memory of the program's, beside those that the runtime models.
 HARMLESS = re.compile(
     r"(putchar|getchar|_?exit|abort|atexit|__assert_fail|malloc|calloc|realloc|free|memalign|aligned_alloc"

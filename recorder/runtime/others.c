@@ -46,9 +46,10 @@ void keep_unseen(const char *name, uint64_t site)
     }
 }
 
+/* The byte before a name says that what is called does its work later, so that it counts in series, too. */
 __attribute__((used)) void call_began(const char *name, const uint64_t *arguments, const void *at)
 {
-    if (!recording || span == UINTPTR_MAX || is_writing)
+    if (!recording || (span == UINTPTR_MAX && !name[-1]) || is_writing)
         return;
     bool is_frame = library_begin(at);
     if (!is_followed(name, arguments, at))
