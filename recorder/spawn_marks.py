@@ -38,7 +38,9 @@ WORDS = re.compile(r"\bcilk_(spawn|scope|reducer)\b")
 LOOP = re.compile(r"[ \t]*#[ \t]*pragma omp taskloop default\(shared\) grainsize\(1\)[ \t]*$")  # `cilk_for`, by cilk.h
 OPENMP = re.compile(r"^[ \t]*#[ \t]*pragma[ \t]+omp\b[^\n]*", re.M)
 # What begins no call.
-OTHER_WORDS = set("if for while do switch else return goto new delete sizeof throw try co_await co_yield co_return".split())
+OTHER_WORDS = set(
+    "if for while do switch else return goto new delete sizeof throw try co_await co_yield co_return".split()
+)
 FUNCTION_NAMES = ("__func__", "__FUNCTION__", "__PRETTY_FUNCTION__")
 INLINED = {"always_inline", "__always_inline__"}
 INLINED_NAME = re.compile(r"\b(?:__always_inline__|always_inline)\b[^;{}]*?\b(?!__attribute__\b)(\w+)\s*\(")
@@ -71,7 +73,8 @@ class Marker:
             if m.lastgroup == "line":
                 loops += [len(self.tokens)] if LOOP.match(m.group()) else []
             else:
-                self.tokens.append(Token(m.lastgroup if m.lastgroup != "fence" else "text", m.group(), m.start(), m.end()))
+                kind = m.lastgroup if m.lastgroup != "fence" else "text"
+                self.tokens.append(Token(kind, m.group(), m.start(), m.end()))
         self.markers = [(m.start(), int(m[1]), m[2]) for m in LINE_MARKER.finditer(text)]
         self.partner, self.outer = self.brackets()
         self.turns = {self.partner[k + 1] + 1 for k in loops if k + 1 in self.partner}  # what the body begins with
@@ -177,7 +180,7 @@ class Marker:
         return left[:-1]
 
     def refuse_place(self, i, place):
-        """Refuses a place of a result that does more than to name memory: when that is done isn't the same in C and C++."""
+        """Refuses a place of a result that does more than to name memory: C and C++ don't do that at the same time."""
         for k, token in enumerate(place):
             text, before = token.text, place[k - 1] if k else token
             is_call = text == "(" and k and (before.kind == "word" or before.text in (")", "]", ">"))
@@ -214,7 +217,7 @@ class Marker:
         return k + 1 if token.text in (".", "->", "::", "~") else None
 
     def is_one_call(self, k, last):
-        """Whether the tokens from `k` to `last` are a call and no more, as `f(x)`, `p->f<int>(x)` or `[&] { .. }()`."""
+        """Whether the tokens from `k` to `last` are one call, as `f(x)`, `p->f<int>(x)` or `[&] { .. }()`."""
         if [t.text for t in self.tokens[k : k + 3]] == ["(", "void", ")"]:
             k += 3
         if k >= last or self.tokens[last - 1].text != ")":
@@ -231,7 +234,8 @@ class Marker:
         k = first
         while k < last:
             if self.tokens[k].text in FUNCTION_NAMES:
-                raise self.fault(k, f"{self.tokens[k].text} in a statement with cilk_spawn; keep it in a variable before")
+                name = self.tokens[k].text
+                raise self.fault(k, f"{name} in a statement with cilk_spawn; keep it in a variable before")
             k = self.partner[k] + 1 if self.tokens[k].text == "{" else k + 1
 
     def refuse_inlined(self, i, last):
@@ -382,7 +386,7 @@ class Marker:
         return None
 
     def is_looped(self, k):
-        """Whether the statement or block that begins at token `k` is in a loop's body without braces, or is one itself."""
+        """Whether the statement or block that begins at token `k` is a loop's body, or in one without braces."""
         while k > 0:
             before = self.tokens[k - 1].text
             if before in ("for", "while", "do"):
@@ -403,8 +407,8 @@ class Marker:
         return False
 
     def mark_ends(self):
-        """The implicit sync at the end of each function, and turn of a cilk_for, that spawns comes before its variables'
-        destructors."""
+        """The implicit sync at the end of each function, and turn of a cilk_for, that spawns comes before its
+        variables' destructors."""
         bodies = {self.turn_of(self.outer[i]) for i in self.outer if self.tokens[i].text == "cilk_spawn"} - {None}
         for i, outer in self.nexts.items():
             if self.turn_of(outer) in bodies and self.ends_turn(i, outer):

@@ -196,8 +196,8 @@ static void add_guarded(uintptr_t address, size_t size)
     guarded[n] = (struct guarded){address, address + size};
 }
 
-/* Whether an initialiser's access isn't written. What it writes to other static variables comes before all uses by those that
-   wait for it; others may use them too, so that is told. */
+/* Whether an initialiser's access isn't written. What it writes to other static variables comes before all uses by
+   those that wait for it; others may use them too, so that is told. */
 static bool is_first_use(enum kind kind, uintptr_t address, const void *return_address)
 {
     if (is_guarded(address))

@@ -1,9 +1,9 @@
-/* Classes of libstdc++ whose functions are compiled: streams, exceptions with a text, and locales. Functions are known by
- * their names, and tell the objects, texts and strings that they are given; one that isn't known is a call that isn't
- * recorded. Those that write as much as they find to read are wrapped, as libc's functions are.
+/* Classes of libstdc++ whose functions are compiled: streams, exceptions with a text, and locales. Functions are known
+ * by their names, and tell the objects, texts and strings that they are given; one that isn't known is a call that
+ * isn't recorded. Those that write as much as they find to read are wrapped, as libc's functions are.
  *
- * A stream is one cell, at the begin of its `basic_ios`: each operation writes it, and a question reads it. The standard
- * ones have locks of their own. */
+ * A stream is one cell, at the begin of its `basic_ios`: each operation writes it, and a question reads it. The
+ * standard ones have locks of their own. */
 #include "models.h"
 
 enum { STRING = 32, ERROR = 16, LOCALE = 8 }; /* bytes of such an object */
@@ -22,7 +22,7 @@ static bool is_same(const char *a, const char *b) { return begins(a, b) && !a[le
 extern char _ZSt4cout[] __attribute__((weak)), _ZSt3cin[] __attribute__((weak)), _ZSt4cerr[] __attribute__((weak));
 extern char _ZSt4clog[] __attribute__((weak));
 
-/* The `basic_ios` of a stream: each begins with a pointer to a table, and three words before its begin is how far it is. */
+/* The `basic_ios` of a stream, which begins with a pointer to a table: how far it is lies three words before that. */
 static const char *ios_of(const void *stream) { return (const char *)stream + (*(const int64_t *const *)stream)[-3]; }
 
 static void tell_ios(enum kind kind, const char *ios, const void *at)
@@ -30,7 +30,7 @@ static void tell_ios(enum kind kind, const char *ios, const void *at)
     static const char *const standard[] = {_ZSt4cout, _ZSt3cin, _ZSt4cerr, _ZSt4clog};
 
     for (int i = 0; i < 4; i++)
-        if (standard[i] && *(void *const *)standard[i] && ios_of(standard[i]) == ios) /* it has been made */
+        if (standard[i] && *(void *const *)standard[i] && ios_of(standard[i]) == ios) /* and it has been made */
             return;
     library_access(kind, ios, 1, at);
 }
@@ -48,18 +48,19 @@ struct known { const char *part; enum what what; };
 
 /* Members of streams, by what follows the class in their names. */
 static const struct known members[] = {
-    {"lsEPF", NO_MORE}, {"lsEPKv", NO_MORE}, {"rsEPF", NO_MORE}, {"rsER", OBJECT}, {"3putEc", NO_MORE}, {"5flushEv", NO_MORE},
-    {"9_M_insertI", NO_MORE}, {"5seekpE", NO_MORE}, {"5tellpEv", NO_MORE}, {"5writeEPKcl", BYTES}, {"3getEv", NO_MORE}, {"3getERc", OBJECT},
-    {"4peekEv", NO_MORE}, {"4syncEv", NO_MORE}, {"5seekgE", NO_MORE}, {"5tellgEv", NO_MORE}, {"5ungetEv", NO_MORE},
-    {"6ignoreE", NO_MORE}, {"7putbackEc", NO_MORE}, {"3strERKNS_12basic_string", OF_STRING}, {"4openEPKc", TEXT},
-    {"4openERKNSt7__cxx1112basic_string", OF_STRING}, {"5closeEv", NO_MORE}, {"7is_openEv", NO_MORE}, {"aSEOS", OTHER_STREAM},
-    {"4swapERS", OTHER_STREAM}, {"D0Ev", NO_MORE}, {"D1Ev", NO_MORE}, {"D2Ev", NO_MORE}};
+    {"lsEPF", NO_MORE}, {"lsEPKv", NO_MORE}, {"rsEPF", NO_MORE}, {"rsER", OBJECT}, {"3putEc", NO_MORE},
+    {"5flushEv", NO_MORE}, {"9_M_insertI", NO_MORE}, {"5seekpE", NO_MORE}, {"5tellpEv", NO_MORE},
+    {"5writeEPKcl", BYTES}, {"3getEv", NO_MORE}, {"3getERc", OBJECT}, {"4peekEv", NO_MORE}, {"4syncEv", NO_MORE},
+    {"5seekgE", NO_MORE}, {"5tellgEv", NO_MORE}, {"5ungetEv", NO_MORE}, {"6ignoreE", NO_MORE}, {"7putbackEc", NO_MORE},
+    {"3strERKNS_12basic_string", OF_STRING}, {"4openEPKc", TEXT}, {"4openERKNSt7__cxx1112basic_string", OF_STRING},
+    {"5closeEv", NO_MORE}, {"7is_openEv", NO_MORE}, {"aSEOS", OTHER_STREAM}, {"4swapERS", OTHER_STREAM},
+    {"D0Ev", NO_MORE}, {"D1Ev", NO_MORE}, {"D2Ev", NO_MORE}};
 static const struct known constructors[] = {
-    {"Ev", NO_MORE}, {"ESt13_Ios_Openmode", NO_MORE}, {"EPKcSt13_Ios_Openmode", TEXT}, {"ERKNS_12basic_string", OF_STRING},
-    {"ERKNSt7__cxx1112basic_string", OF_STRING}, {"EOS", OTHER_STREAM}};
+    {"Ev", NO_MORE}, {"ESt13_Ios_Openmode", NO_MORE}, {"EPKcSt13_Ios_Openmode", TEXT},
+    {"ERKNS_12basic_string", OF_STRING}, {"ERKNSt7__cxx1112basic_string", OF_STRING}, {"EOS", OTHER_STREAM}};
 static const struct known of_ios[] = {
-    {"5clearE", NO_MORE}, {"8setstateE", NO_MORE}, {"10exceptionsE", NO_MORE}, {"4fillEc", NO_MORE}, {"3tieEPSo", NO_MORE},
-    {"C2Ev", NO_MORE}, {"D2Ev", NO_MORE}};
+    {"5clearE", NO_MORE}, {"8setstateE", NO_MORE}, {"10exceptionsE", NO_MORE}, {"4fillEc", NO_MORE},
+    {"3tieEPSo", NO_MORE}, {"C2Ev", NO_MORE}, {"D2Ev", NO_MORE}};
 static const struct known functions[] = {
     {"_ZSt16__ostream_insertIc", BYTES}, {"_ZSt4endlIc", NO_MORE}, {"_ZSt4endsIc", NO_MORE}, {"_ZSt5flushIc", NO_MORE},
     {"_ZSt2wsIc", NO_MORE}, {"_ZStlsISt11char_traitsIcEERSt13basic_ostreamIcT_ES5_PKc", TEXT},
@@ -82,8 +83,9 @@ static const struct known *find(const struct known *list, size_t n, const char *
 static const struct { const char *name; int ios; } classes[] = {
     {"So", 8}, {"Si", 16}, {"St7__cxx1119basic_istringstreamIcSt11char_traitsIcESaIcEE", 120},
     {"St7__cxx1119basic_ostringstreamIcSt11char_traitsIcESaIcEE", 112},
-    {"St7__cxx1118basic_stringstreamIcSt11char_traitsIcESaIcEE", 128}, {"St14basic_ifstreamIcSt11char_traitsIcEE", 256},
-    {"St14basic_ofstreamIcSt11char_traitsIcEE", 248}, {"St13basic_fstreamIcSt11char_traitsIcEE", 264}};
+    {"St7__cxx1118basic_stringstreamIcSt11char_traitsIcESaIcEE", 128},
+    {"St14basic_ifstreamIcSt11char_traitsIcEE", 256}, {"St14basic_ofstreamIcSt11char_traitsIcEE", 248},
+    {"St13basic_fstreamIcSt11char_traitsIcEE", 264}};
 
 /* The bytes of what `>>` writes, by the mangled type at a name's end. */
 static size_t size_of_type(const char *name)
@@ -198,7 +200,8 @@ READING(_ZNSi8readsomeEPcl, (void *in, char *to, int64_t n), (in, to, n), W(to, 
 READING(_ZNSi3getEPcl, (void *in, char *to, int64_t n), (in, to, n), if (n > 0) W(to, counted(in) + 1))
 READING(_ZNSi3getEPclc, (void *in, char *to, int64_t n, char c), (in, to, n, c), if (n > 0) W(to, counted(in) + 1))
 READING(_ZNSi7getlineEPcl, (void *in, char *to, int64_t n), (in, to, n), if (n > 0) W(to, text_part(to, n)))
-READING(_ZNSi7getlineEPclc, (void *in, char *to, int64_t n, char c), (in, to, n, c), if (n > 0) W(to, text_part(to, n)))
+READING(_ZNSi7getlineEPclc, (void *in, char *to, int64_t n, char c), (in, to, n, c),
+        if (n > 0) W(to, text_part(to, n)))
 NOTHING(_ZSt17__istream_extractRSiPcl, (void *in, char *to, int64_t n), (in, to, n), tell_stream(WRITE, in, at);,
         W(to, text_part(to, n)))
 
@@ -206,12 +209,11 @@ NOTHING(_ZSt17__istream_extractRSiPcl, (void *in, char *to, int64_t n), (in, to,
 #define STRING_TEXT W(*(char **)to, ((uint64_t *)to)[1] + 1)
 #define READING_STRING(NAME, PARAMETERS, ARGUMENTS) \
     MODEL(void *, NAME, PARAMETERS, ARGUMENTS, tell_stream(WRITE, in, at); W(to, STRING), STRING_TEXT)
-READING_STRING(_ZSt7getlineIcSt11char_traitsIcESaIcEERSt13basic_istreamIT_T0_ES7_RNSt7__cxx1112basic_stringIS4_S5_T1_EE,
-               (void *in, void *to), (in, to))
-READING_STRING(_ZSt7getlineIcSt11char_traitsIcESaIcEERSt13basic_istreamIT_T0_ES7_RNSt7__cxx1112basic_stringIS4_S5_T1_EES4_,
-               (void *in, void *to, char c), (in, to, c))
-READING_STRING(_ZStrsIcSt11char_traitsIcESaIcEERSt13basic_istreamIT_T0_ES7_RNSt7__cxx1112basic_stringIS4_S5_T1_EE,
-               (void *in, void *to), (in, to))
+#define WITH_STRING(BEGIN, END) \
+    BEGIN##IcSt11char_traitsIcESaIcEERSt13basic_istreamIT_T0_ES7_RNSt7__cxx1112basic_stringIS4_S5_T1_EE##END
+READING_STRING(WITH_STRING(_ZSt7getline, ), (void *in, void *to), (in, to))
+READING_STRING(WITH_STRING(_ZSt7getline, S4_), (void *in, void *to, char c), (in, to, c))
+READING_STRING(WITH_STRING(_ZStrs, ), (void *in, void *to), (in, to))
 
 /* ---- Exceptions with a text, and locales: of an object two words or one, which its copies share. */
 

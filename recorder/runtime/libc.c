@@ -43,17 +43,19 @@ static void *filled(void *to, int value, size_t n)
     return to;
 }
 
-MODEL_AS(void *, memcpy, (__real_memcpy ? __real_memcpy : copied), (void *to, const void *from, size_t n), (to, from, n),
+#define REAL(NAME, OTHER) (__real_##NAME ? __real_##NAME : OTHER)
+MODEL_AS(void *, memcpy, REAL(memcpy, copied), (void *to, const void *from, size_t n), (to, from, n),
          R(from, n) W(to, n), )
-MODEL_AS(void *, memmove, (__real_memmove ? __real_memmove : copied), (void *to, const void *from, size_t n), (to, from, n),
+MODEL_AS(void *, memmove, REAL(memmove, copied), (void *to, const void *from, size_t n), (to, from, n),
          R(from, n) W(to, n), )
-MODEL_AS(void *, memset, (__real_memset ? __real_memset : filled), (void *to, int value, size_t n), (to, value, n), W(to, n), )
+MODEL_AS(void *, memset, REAL(memset, filled), (void *to, int value, size_t n), (to, value, n), W(to, n), )
 void *__asan_memcpy(void *to, const void *from, size_t n) __attribute__((alias("__wrap_memcpy")));
 void *__asan_memmove(void *to, const void *from, size_t n) __attribute__((alias("__wrap_memmove")));
 void *__asan_memset(void *to, int value, size_t n) __attribute__((alias("__wrap_memset")));
 MODEL(int, memcmp, (const void *a, const void *b, size_t n), (a, b, n), R(a, n) R(b, n), )
 MODEL(size_t, strlen, (const char *s), (s), , R(s, result + 1))
-MODEL(int, strcmp, (const char *a, const char *b), (a, b), size_t k = compared(a, b, SIZE_MAX, false); R(a, k) R(b, k), )
+MODEL(int, strcmp, (const char *a, const char *b), (a, b),
+      size_t k = compared(a, b, SIZE_MAX, false); R(a, k) R(b, k), )
 MODEL(char *, strcpy, (char *to, const char *from), (to, from), size_t k = length(from) + 1; R(from, k) W(to, k), )
 #define REACHED(S, N) R(S, result ? (const char *)result - (const char *)(S) + 1 : (N))
 MODEL(void *, memchr, (const void *s, int c, size_t n), (s, c, n), , REACHED(s, n))
@@ -154,7 +156,8 @@ MODEL(int, wcscmp, (const wchar_t *a, const wchar_t *b), (a, b),
       size_t k = 0; while (a[k] && a[k] == b[k]) k++; R(a, WIDE(k + 1)) R(b, WIDE(k + 1)), )
 MODEL(int, wcsncmp, (const wchar_t *a, const wchar_t *b, size_t n), (a, b, n),
       size_t k = 0; while (k < n && a[k] && a[k] == b[k]) k++; if (k < n) k++; R(a, WIDE(k)) R(b, WIDE(k)), )
-MODEL(wchar_t *, wcschr, (const wchar_t *s, wchar_t c), (s, c), , R(s, WIDE((result ? (size_t)(result - s) : wide_length(s)) + 1)))
+MODEL(wchar_t *, wcschr, (const wchar_t *s, wchar_t c), (s, c), ,
+      R(s, WIDE((result ? (size_t)(result - s) : wide_length(s)) + 1)))
 MODEL(wchar_t *, wcsrchr, (const wchar_t *s, wchar_t c), (s, c), R(s, WIDE(wide_length(s) + 1)), )
 MODEL(wchar_t *, wcsdup, (const wchar_t *s), (s), R(s, WIDE(wide_length(s) + 1)), )
 MODEL(wchar_t *, wmemcpy, (wchar_t *to, const wchar_t *from, size_t n), (to, from, n), R(from, WIDE(n)) W(to, WIDE(n)), )
@@ -212,8 +215,8 @@ NUMBER(unsigned long, __isoc23_strtoul) NUMBER(unsigned long long, __isoc23_strt
         return result; \
     }
 REAL_NUMBER(double, strtod) REAL_NUMBER(float, strtof) REAL_NUMBER(long double, strtold)
-MODEL(double, atof, (const char *s), (s), char *after; if (__real_strtod) __real_strtod(s, &after); else after = (char *)s;
-      R(s, after - s + 1), )
+MODEL(double, atof, (const char *s), (s),
+      char *after = (char *)s + length(s); if (__real_strtod) __real_strtod(s, &after); R(s, after - s + 1), )
 MODEL(int, rand_r, (unsigned *seed), (seed), R1(seed) W1(seed), )
 extern char **environ;
 MODEL(char *, getenv, (const char *name), (name), RS(name) R(&environ, 8), )
@@ -304,7 +307,7 @@ MODEL(ssize_t, writev, (int fd, const struct iovec *v, int n), (fd, v, n),
 MODEL(ssize_t, readv, (int fd, const struct iovec *v, int n), (fd, v, n), R(v, (size_t)n * sizeof *v),
       ssize_t left = result; for (int i = 0; i < n && left > 0; i++) {
           size_t k = (size_t)left < v[i].iov_len ? (size_t)left : v[i].iov_len; W(v[i].iov_base, k) left -= (ssize_t)k; })
-/* What is mapped is new memory, and what ends is written, as a block that is freed: there may be much that no line names. */
+/* What is mapped is new memory, and what ends is written, as a block that is freed. Much of it no line may name. */
 enum { PAGE_BYTES = 4096 };
 static void tell_map(enum kind kind, const void *p, size_t n, const void *at)
 {
@@ -319,9 +322,10 @@ static void tell_map(enum kind kind, const void *p, size_t n, const void *at)
         from = next;
     }
 }
-#define NEW_MAP if (result != MAP_FAILED) tell_map(CLEAR, result, n, at);
-MODEL(void *, mmap, (void *p, size_t n, int how, int flags, int fd, off_t from), (p, n, how, flags, fd, from), , NEW_MAP)
-MODEL(void *, mmap64, (void *p, size_t n, int how, int flags, int fd, off_t from), (p, n, how, flags, fd, from), , NEW_MAP)
+#define MAPS(NAME) \
+    MODEL(void *, NAME, (void *p, size_t n, int how, int flags, int fd, off_t from), (p, n, how, flags, fd, from), , \
+          if (result != MAP_FAILED) tell_map(CLEAR, result, n, at);)
+MAPS(mmap) MAPS(mmap64)
 MODEL(int, munmap, (void *p, size_t n), (p, n), tell_map(WRITE, p, n, at);, )
 MODEL(int, pipe, (int *to), (to), , if (!result) W(to, 8))
 MODEL(int, stat, (const char *path, struct stat *to), (path, to), RS(path), W1(to))

@@ -1,6 +1,6 @@
-/* Calls of libraries that no model records. cilkrec links a stub round each such function that the program calls; it tells
- * here what is called, and with which first arguments, where something is parallel. Of functions that classes.c doesn't
- * follow, the names and places are kept for the trace's reader. */
+/* Calls of libraries that no model records. cilkrec links a stub round each such function that the program calls; it
+ * tells here what is called, and with which first arguments, where something is parallel. Of functions that classes.c
+ * doesn't follow, the names and places are kept for the trace's reader. */
 #include <stdlib.h>
 #include <string.h>
 #include "recorder.h"

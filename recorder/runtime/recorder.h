@@ -13,11 +13,11 @@
  * nothing can race with an access, so none is written. And below the deepest frame that has one, the stack belongs to
  * the current strand alone, so accesses to it aren't written. `span` holds both rules in one comparison.
  *
- * trace.c writes lines and keeps the filter, frames.c follows calls, spawns and exceptions, accesses.c has reads, writes,
- * the heap and reducers, libc.c models of libc's functions, vectors.c loads and stores by masks, loops.c `cilk_for`,
- * places.c names of functions and places, late.c what a recording can't hold, others.c calls of libraries, classes.c
- * those of libstdc++'s classes that it follows, models.h what models use, look.c the second run of `cilkrec run`, start.c begins and ends the recording. calls.cc is gcc's plugin, containers.cc libstdc++'s
- * trees and lists; they are compiled apart.
+ * trace.c writes lines and keeps the filter, frames.c follows calls, spawns and exceptions, accesses.c has reads,
+ * writes, the heap and reducers, libc.c models of libc's functions, by models.h, vectors.c loads and stores by masks,
+ * loops.c `cilk_for`, places.c names of functions and places, late.c what a recording can't hold, others.c calls of
+ * libraries, classes.c those of libstdc++'s classes, look.c the second run of `cilkrec run`, start.c begins and ends
+ * the recording. calls.cc is gcc's plugin, containers.cc libstdc++'s trees and lists; they are compiled apart.
  */
 #ifndef CILKREC_RECORDER_H
 #define CILKREC_RECORDER_H

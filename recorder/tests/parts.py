@@ -360,7 +360,8 @@ def without_plugin(folder):
                 f"{name}:" not in done.stderr and "intrin.h:" not in done.stderr):
             return f"{name} {case}: {done.stderr}"
     with open(os.path.join(folder, "half.c"), "w", encoding="utf-8") as f:
-        f.write("#include <immintrin.h>\nfloat f[4];\nint main(void) { _mm_storeh_pi((__m64 *)f, _mm_set1_ps(1)); return 0; }\n")
+        f.write("#include <immintrin.h>\nfloat f[4];\n"
+                "int main(void) { _mm_storeh_pi((__m64 *)f, _mm_set1_ps(1)); return 0; }\n")
     done = call([CILKREC, "gcc", "half.c", "-o", "prog"], folder, **env)
     if done.returncode == 0 or "`__builtin_ia32_storehps` isn't recorded without gcc's plugin" not in done.stderr:
         return done.stderr
@@ -425,7 +426,8 @@ def told_classes(folder, compiler):
         return wrong
     done = call(["./prog"], folder, CILK_TRACE="trace", CILK_SITES="sites", CILK_TRACE_UNSEEN="1")
     names = [name.split("(")[0] for name in unseen_names(folder)]
-    return None if len(names) == 2 and names[1] == "__cxa_demangle" and "operator<<" in names[0] else f"{names} {done.stderr}"
+    is_told = len(names) == 2 and names[1] == "__cxa_demangle" and "operator<<" in names[0]
+    return None if is_told else f"{names} {done.stderr}"
 
 
 VALUES = """static void zero(void *v) { *(int *)v = 0; }

@@ -1,4 +1,4 @@
-/* Memory that is given back and given anew, by functions that take whole pages: and a strand that gives back what another one uses. */
+/* Memory by functions that take whole pages, which two strands use, or one gives back. */
 #define _GNU_SOURCE
 #include <cilk/cilk.h>
 #include <malloc.h>
@@ -16,7 +16,7 @@ static void use(int *p) { p[3] = 1; }
 int main(void)
 {
     switch (WHICH) {
-    case 0: shared = mapped(8192); cilk_spawn use(shared); munmap((char *)shared + 4096, 4096); munmap(shared, 4096); break;
+    case 0: shared = mapped(4096); cilk_spawn use(shared); munmap(shared, 4096); break;
     case 1: shared = valloc(40); cilk_spawn use(shared); free(shared); break;
     case 2: shared = pvalloc(5000); cilk_spawn use(shared); shared[3] = 2; break;
     case 3: shared = mapped(4096); cilk_spawn use(shared); shared[3] = 2; break;

@@ -1,4 +1,4 @@
-// What functions of C++'s streams, exceptions and locales read and write beside their object: texts, strings and buffers.
+// What functions of C++'s streams, exceptions and locales read and write beside their object: texts, and buffers.
 #include <cilk/cilk.h>
 #include <cstdlib>
 #include <cstring>
@@ -61,8 +61,9 @@ PROBE(25, place = std::locale::classic(), std::locale c(place), std::locale c(pl
 
 int main(int n, char **words) {
   static void (*const all[])(bool) = {
-    probe0, probe1, probe2, probe3, probe4, probe5, probe6, probe7, probe8, probe9, probe10, probe11, probe12, probe13, probe14,
-    probe15, probe16, probe17, probe18, probe19, probe20, probe21, probe22, probe23, probe24, probe25};
+    probe0, probe1, probe2, probe3, probe4, probe5, probe6, probe7, probe8, probe9, probe10, probe11, probe12,
+    probe13, probe14, probe15, probe16, probe17, probe18, probe19, probe20, probe21, probe22, probe23, probe24,
+    probe25};
   if (n < 3) return 1;
   all[atoi(words[1])](words[2][0] == 'r');
   return 0;
