@@ -35,14 +35,21 @@ LINE_MARKER = re.compile(r'^# (\d+) "([^"\n]*)"', re.M)
 OPENING = {")": "(", "]": "[", "}": "{"}
 HEADS = ("if", "for", "while", "switch", "constexpr")
 WORDS = re.compile(r"\bcilk_(spawn|scope|reducer)\b")
+LOOP = re.compile(r"[ \t]*#[ \t]*pragma omp taskloop default\(shared\) grainsize\(1\)[ \t]*$")  # `cilk_for`, by cilk.h
+OPENMP = re.compile(r"^[ \t]*#[ \t]*pragma[ \t]+omp\b[^\n]*", re.M)
+# What begins no call.
+OTHER_WORDS = set(
+    "if for while do switch else return goto new delete sizeof throw try co_await co_yield co_return".split()
+)
+FUNCTION_NAMES = ("__func__", "__FUNCTION__", "__PRETTY_FUNCTION__")
 INLINED = {"always_inline", "__always_inline__"}
 INLINED_NAME = re.compile(r"\b(?:__always_inline__|always_inline)\b[^;{}]*?\b(?!__attribute__\b)(\w+)\s*\(")
 # Attributes of functions whose accesses, or calls, the compiler then doesn't tell.
 UNTOLD = re.compile(
     r"\b_*(no_sanitize(?:_thread|_address)?|no_address_safety_analysis|no_instrument_function"
-    r"|disable_sanitizer_instrumentation|naked)_*\b(\s*\([^()]*\))?"
+    r"|disable_sanitizer_instrumentation|naked|optimize)_*\b(\s*\([^()]*\))?"
 )
-ATTRIBUTE = re.compile(r"(__attribute(__)?\s*\(\(|\[\[)[^;{}]*$")
+ATTRIBUTE = re.compile(r"((__attribute(__)?\s*\(\(|\[\[)[^;{}]*|^[ \t]*#[ \t]*pragma[ \t]+GCC[ \t]+)\Z", re.M)
 LAMBDA = "[&]() __attribute__((no_instrument_function, noinline)) "
 # libstdc++ has the members of std::string compiled: without this line they are compiled, and recorded, here.
 COMPILED_STRING = "extern template class basic_string<char>;"
@@ -58,15 +65,19 @@ class Marker:
     """One text: its tokens, the partner of each bracket, and the edits that were found."""
 
     def __init__(self, text, clang, cxx):
-        self.text, self.clang, self.cxx, self.edits, self.returns, self.syncs = text, clang, cxx, [], {}, {}
+        self.text, self.clang, self.cxx, self.edits = text, clang, cxx, []
+        self.returns, self.syncs, self.nexts = {}, {}, {}
         self.inlined = set(INLINED_NAME.findall(text)) if clang else set()
-        self.tokens = [
-            Token(m.lastgroup if m.lastgroup != "fence" else "text", m.group(), m.start(), m.end())
-            for m in TOKEN.finditer(text)
-            if m.lastgroup != "line"
-        ]
+        self.tokens, loops = [], []  # loops: the `for` of each cilk_for
+        for m in TOKEN.finditer(text):
+            if m.lastgroup == "line":
+                loops += [len(self.tokens)] if LOOP.match(m.group()) else []
+            else:
+                kind = m.lastgroup if m.lastgroup != "fence" else "text"
+                self.tokens.append(Token(kind, m.group(), m.start(), m.end()))
         self.markers = [(m.start(), int(m[1]), m[2]) for m in LINE_MARKER.finditer(text)]
         self.partner, self.outer = self.brackets()
+        self.turns = {self.partner[k + 1] + 1 for k in loops if k + 1 in self.partner}  # what the body begins with
 
     def brackets(self):
         """The partner of each bracket, and for each of this pass's words the brackets open round it."""
@@ -81,8 +92,8 @@ class Marker:
                 partner[partner[i]] = i
             elif token.kind == "word" and WORDS.fullmatch(token.text):
                 outer[i] = list(stack)
-            elif token.kind == "word" and token.text in ("return", "cilkrec_sync"):
-                (self.returns if token.text == "return" else self.syncs)[i] = list(stack)
+            elif token.kind == "word" and token.text in ("return", "cilkrec_sync", "continue"):
+                {"return": self.returns, "continue": self.nexts}.get(token.text, self.syncs)[i] = list(stack)
         return partner, outer
 
     def fault(self, i, what):
@@ -168,6 +179,65 @@ class Marker:
             raise self.fault(i, "cilk_spawn after `,`; give it a statement of its own")
         return left[:-1]
 
+    def refuse_place(self, i, place):
+        """Refuses a place of a result that does more than to name memory: C and C++ don't do that at the same time."""
+        for k, token in enumerate(place):
+            text, before = token.text, place[k - 1] if k else token
+            is_call = text == "(" and k and (before.kind == "word" or before.text in (")", "]", ">"))
+            if text in ("++", "--") or token.kind == "mark" and re.fullmatch(r"[-+*/%&|^]?=", text):
+                raise self.fault(i, f"`{text}` on the left of cilk_spawn; give it a statement of its own")
+            if is_call and before.text not in ("sizeof", "alignof", "_Alignof"):
+                raise self.fault(i, "a call on the left of cilk_spawn; give it a statement of its own")
+
+    def after_angles(self, k, last):
+        """The token after a list of a template's arguments, or None."""
+        depth = 0
+        while k < last:
+            text = self.tokens[k].text
+            depth += (text == "<") - (text == ">")
+            if depth == 0:
+                return k + 1
+            k = self.partner[k] + 1 if text in ("(", "[", "{") else k + 1
+        return None
+
+    def after_part(self, k, first, last):
+        """The token after one part of what is called, or after its arguments; None where there is an operator."""
+        token = self.tokens[k]
+        if token.kind == "word" and token.text == "operator":
+            return next((j for j in range(k + 1, last) if self.tokens[j].text == "("), None)
+        if token.kind == "word":
+            return None if token.text in OTHER_WORDS else k + 1
+        if token.text == "[" and k == first:  # a lambda, up to its body
+            while k < last and self.tokens[k].text != "{":
+                k = self.partner[k] + 1 if self.tokens[k].text in ("(", "[") else k + 1
+        if self.tokens[k].text in ("(", "[", "{"):
+            return self.partner[k] + 1
+        if token.text == "<" and self.cxx:
+            return self.after_angles(k, last)
+        return k + 1 if token.text in (".", "->", "::", "~") else None
+
+    def is_one_call(self, k, last):
+        """Whether the tokens from `k` to `last` are one call, as `f(x)`, `p->f<int>(x)` or `[&] { .. }()`."""
+        if [t.text for t in self.tokens[k : k + 3]] == ["(", "void", ")"]:
+            k += 3
+        if k >= last or self.tokens[last - 1].text != ")":
+            return False
+        if self.tokens[k].text == "(" and self.partner[k] == last - 1:
+            return self.is_one_call(k + 1, last - 1)
+        first = k
+        while k is not None and k < last:
+            k = self.after_part(k, first, last)
+        return k == last
+
+    def refuse_names(self, first, last):
+        """Refuses a function's own name: in C++ the statement is the body of a lambda."""
+        k = first
+        while k < last:
+            if self.tokens[k].text in FUNCTION_NAMES:
+                name = self.tokens[k].text
+                raise self.fault(k, f"{name} in a statement with cilk_spawn; keep it in a variable before")
+            k = self.partner[k] + 1 if self.tokens[k].text == "{" else k + 1
+
     def refuse_inlined(self, i, last):
         """Refuses a spawn in a function that the compiler puts into another one, whose frame it would have, and with clang
         one of such a function, which has no hooks there."""
@@ -191,7 +261,17 @@ class Marker:
         elif self.clang:  # so that the stack has no fixed room for arguments: they come to lie below the mark
             begin = "(void)__builtin_alloca(cilkrec_spawn_begin()); "
         declares = self.declares(place)
-        if declares or len(place) == 1:
+        if declares:
+            self.refuse_variables(i, last)
+        else:
+            self.refuse_place(i, place)
+        if not self.is_one_call(i + 1, last):
+            raise self.fault(i, "cilk_spawn of more than a call; give that call a statement of its own")
+        if self.cxx:
+            self.refuse_names(first, last)
+        if declares and place[-2].text in ("&", "&&"):
+            into = self.into_reference(i, last, place[-1].text)
+        elif declares or len(place) == 1:
             into = f" cilkrec_spawn_into((void *)&{place[-1].text}, sizeof({place[-1].text}));"
         elif place:
             where = " ".join(self.text[place[0].start : place[-1].end].split())
@@ -206,6 +286,18 @@ class Marker:
         self.insert(self.tokens[first].start, opening + begin)
         self.insert(self.tokens[last].end, f"{into} cilkrec_spawn_end();{closing}")
 
+    def into_reference(self, i, last, name):
+        """The write of the value that a reference keeps, where the call gives one: it may give a reference itself."""
+        if any(self.tokens[k].text == "[" and not self.is_subscript(k) for k in range(i + 1, last)):
+            raise self.fault(i, "a lambda beside cilk_spawn in the first value of a reference; give it a name before")
+        given = " ".join(self.text[self.tokens[i + 1].start : self.tokens[last - 1].end].split())
+        return f" if (cilkrec_given<decltype({given})>::is_value) cilkrec_spawn_into((void *)&{name}, sizeof({name}));"
+
+    def is_subscript(self, k):
+        """Whether a `[` follows what it is an index of, so that it begins no lambda."""
+        before = self.tokens[k - 1]
+        return before.kind == "word" and before.text not in ("return", "cilk_spawn") or before.text in (")", "]")
+
     def type_of(self, first, i):
         """The type of a declared variable: what the lambda gives, so that a value is made before its arguments end."""
         words = [t.text for t in self.tokens[first : i - 2]]  # without the name and `=`
@@ -217,8 +309,8 @@ class Marker:
             kept = [w for w in words if w not in ("static", "constexpr", "register", "thread_local", "extern", "inline")]
         return " ".join(kept)
 
-    def mark_declaration(self, i, first, last, begin, into):
-        """The marks of a spawn whose result is a variable's first value."""
+    def refuse_variables(self, i, last):
+        """Refuses a declaration of more variables."""
         k, angles = i + 1, 0
         while k < last:
             text = self.tokens[k].text
@@ -226,6 +318,9 @@ class Marker:
             if text == "," and angles == 0:
                 raise self.fault(i, "a declaration goes on after cilk_spawn; declare one variable")
             k = self.partner[k] + 1 if text in ("(", "[", "{") else k + 1
+
+    def mark_declaration(self, i, first, last, begin, into):
+        """The marks of a spawn whose result is a variable's first value."""
         if self.cxx:
             self.insert(self.tokens[i].start, f"{LAMBDA}-> {self.type_of(first, i)} {{ {begin}return ")
             self.insert(self.tokens[last].start, "; }()")
@@ -283,9 +378,42 @@ class Marker:
                 return brace
         return None
 
+    def turn_of(self, outer):
+        """The brace of the innermost body of a function or of a cilk_for among open brackets, or None."""
+        for brace in reversed(outer):
+            if self.tokens[brace].text == "{" and (brace in self.turns or self.is_body(brace)):
+                return brace
+        return None
+
+    def is_looped(self, k):
+        """Whether the statement or block that begins at token `k` is a loop's body, or in one without braces."""
+        while k > 0:
+            before = self.tokens[k - 1].text
+            if before in ("for", "while", "do"):
+                return True
+            if before in (";", "}", "{") and (before == "{" or self.tokens[k].text != "else"):
+                return False
+            k = self.partner[k - 1] if before in (")", "]", "}") else k - 1
+        return False
+
+    def ends_turn(self, i, outer):
+        """Whether a `continue` ends a turn of the cilk_for whose body it is in, not one of a loop in that body."""
+        for brace in reversed(outer):
+            if self.is_looped(i) or self.tokens[brace].text != "{":
+                return False
+            if brace in self.turns:
+                return True
+            i = brace
+        return False
+
     def mark_ends(self):
-        """The implicit sync at the end of each function that spawns comes before its variables' destructors."""
-        bodies = {self.body_of(self.outer[i]) for i in self.outer if self.tokens[i].text == "cilk_spawn"} - {None}
+        """The implicit sync at the end of each function, and turn of a cilk_for, that spawns comes before its
+        variables' destructors."""
+        bodies = {self.turn_of(self.outer[i]) for i in self.outer if self.tokens[i].text == "cilk_spawn"} - {None}
+        for i, outer in self.nexts.items():
+            if self.turn_of(outer) in bodies and self.ends_turn(i, outer):
+                self.insert(self.tokens[i].start, "{ cilkrec_sync(); ")
+                self.insert(self.tokens[i + 1].end, " }")
         for brace in bodies:
             self.insert(self.tokens[self.partner[brace]].start, " cilkrec_sync(); ")
         for i, outer in self.returns.items():
@@ -363,30 +491,47 @@ def hides(word, arguments, clang):
     wanted = "address" if clang else "thread"
     if word == "no_sanitize":
         return bool(re.search(rf'"(all|{wanted})"|\b{wanted}\b', arguments or ""))
+    if word == "optimize":
+        return not clang
     if word.startswith("no_sanitize_"):
         return word == "no_sanitize_" + wanted
     return clang or word not in ("no_address_safety_analysis", "disable_sanitizer_instrumentation")
 
 
+def place_of(text, offset):
+    """(file, line) of a place in a preprocessed text, by its line markers."""
+    before = list(LINE_MARKER.finditer(text, 0, offset))
+    if not before:
+        return "?", 1 + text.count("\n", 0, offset)
+    return before[-1][2], int(before[-1][1]) + text.count("\n", before[-1].start(), offset) - 1
+
+
 def refuse_untold(text, clang, own):
     """Raises Fault at an attribute that hides a function, but for those in the recorder's own folder of headers."""
-    markers = None
     for found in UNTOLD.finditer(text):
-        if not hides(found[1], found[2], clang) or not ATTRIBUTE.search(text, max(0, found.start() - 400), found.start()):
+        if not hides(found[1], found[2], clang):
             continue
-        if markers is None:
-            markers = [(m.start(), int(m[1]), m[2]) for m in LINE_MARKER.finditer(text)]
-        k = bisect.bisect_right(markers, (found.start(),)) - 1
-        start, line, name = markers[k] if k >= 0 else (0, 1, "?")
-        if own and name.startswith(own) or name.startswith("<"):
+        way = ATTRIBUTE.search(text, max(0, found.start() - 400), found.start())
+        name, line = place_of(text, found.start()) if way else ("<", 0)
+        if name.startswith("<") or own and name.startswith(own):
             continue
-        line += text.count("\n", start, found.start()) - (k >= 0)
-        raise Fault(f"{name}:{line}: attribute {found[1]}: what its function does isn't recorded")
+        kind = "#pragma GCC" if "#" in way[0] else "attribute"
+        raise Fault(f"{name}:{line}: {kind} {found[1]}: what its function does isn't recorded")
 
 
-def marked(text, clang, cxx, own=""):
+def without_openmp(text, has_openmp):
+    """The text without OpenMP's pragmas, but for those of cilk_for, as a compiler takes it that isn't told of them."""
+    for found in OPENMP.finditer(text):
+        if has_openmp and not LOOP.match(found[0]):
+            name, line = place_of(text, found.start())
+            raise Fault(f"{name}:{line}: `#pragma omp` with -fopenmp: of OpenMP only cilk_for's loops are recorded")
+    return OPENMP.sub(lambda found: found[0] if LOOP.match(found[0]) else "", text)
+
+
+def marked(text, clang, cxx, own="", has_openmp=False):
     """The text with its marks; a text without OpenCilk's words as it is."""
     refuse_untold(text, clang, own)
+    text = without_openmp(text, has_openmp)
     if cxx:
         text = text.replace(COMPILED_STRING, " " * len(COMPILED_STRING))
     return Marker(text, clang, cxx).marked() if WORDS.search(text) else text

@@ -12,9 +12,10 @@ import sys
 ENTER = "__cyg_profile_func_enter"
 GUARD = "_ZGV"  # of a function's static variable: the compiler's own atomic read
 IR_ATOMIC = re.compile(r"\b(load atomic|store atomic|cmpxchg|atomicrmw|fence) ")
+# Operations of the processor: those that take a pointer, but for those that touch no variable of the program's.
 IR_VECTOR = re.compile(
-    r"\bcall .*@llvm\.(masked\.(gather|scatter|expandload|compressstore)"
-    r"|x86\.(avx512[\w.]*(gather|scatter|mask\.(expand|compress))|[\w.]*(scatter|maskmovq|rdrand|rdseed)))"
+    r"\bcall .*@llvm\.(masked\.(gather|scatter|expandload|compressstore)|x86\.(rdrand|rdseed)"
+    r"|x86\.(?![\w.]*(clflush|clwb|monitor|prefetch|(ld|st)mxcsr))[\w.]+\([^)]*(\*|\bptr\b))"
 )
 IR_MASKED = re.compile(
     r"\bcall .*@llvm\.x86\.(?:(sse2)\.maskmov\.dqu|avx2?\.mask(load|store)\.\w+(?:\.256)?)\((.*?)\)(?: #\d+)?(, !dbg !\d+)?$"
@@ -39,25 +40,33 @@ OWN_OPENMP = set(
     "__kmpc_omp_task_alloc __kmpc_taskloop".split()
 )
 LOCKS = re.compile(r"(pthread_(mutex|rwlock|spin|cond|barrier)_|mtx_|sem_)")
+# What these give does its work later, out of sight: they are told in series, too.
+LATER = re.compile(r"(dlv?sym|fmemopen|open_w?memstream|fopencookie|_ZNSt3pmr\w+_resource[CD]\dE\w*)$")
 # Functions of libc that touch no memory of the program's, beside those that the runtime models.
 HARMLESS = re.compile(
     r"(putchar|getchar|_?exit|abort|atexit|__assert_fail|malloc|calloc|realloc|free|memalign|aligned_alloc"
-    r"|posix_memalign|clock|sysconf|getpid|getppid|std(in|out|err)|environ|alloca|sleep|usleep|sched_yield|isatty"
+    r"|posix_memalign|p?valloc|clock"
+    r"|sysconf|getpid|getppid|std(in|out|err)|environ|alloca|sleep|usleep|sched_yield|isatty"
     r"|close|dup2?|lseek(64)?|fileno|is(alnum|alpha|digit|space|upper|lower|print|punct|xdigit)|to(upper|lower)"
     r"|__ctype_\w+_loc|difftime|l?l?div|getpagesize|__getauxval|fegetround|strerror|strsignal"
     r"|abs|labs|(f?abs|sqrt|cbrt|exp2?|expm1|log(2|10|1p)?|pow|sin|cos|tan|a(sin|cos|tan2?)|sinh|cosh|tanh|floor|ceil"
     r"|round|trunc|fmod|hypot|f(min|max|dim|ma)|[il]+round|l+rint|rint|erfc?|nearbyint)[fl]?|isnan|isinf|fesetround"
     r"|raise|kill|alarm|__libc_single_threaded|longjmp|_?longjmp|siglongjmp|_?_?(sig)?setjmp|__main|main|__errno_location"
     r"|__(tsan|asan)_\w+|__cyg_profile_func_\w+|cilkrec_\w+|__stack_chk_fail|_GLOBAL_OFFSET_TABLE_|__dso_handle"
-    r"|__cxa_\w+|_Unwind_\w+|__gxx_personality_v0|_Z(dl|da|nw|na)Pv\w*|_Z(nw|na)m\w*|_ZSt9terminatev|_ZTV\w+|_ZTI\w+"
-    r"|_ZNK?Sa\w+|_ZNSt15__new_allocator\w+|_ZNSt9exceptionD\dEv|_ZNSt\d+(\w+_error|bad_\w+)[CD]\dE\w*|_ZNSt8ios_base4Init\w+"
-    r"|_ZNKSt9basic_iosI\w+|_ZSt(4(cout|cerr|clog)|3cin)|_ZSt17__throw_\w+|_ZNSt6locale\w+|_ZTTN?St\w+|_ZTHN?\w+"
-    r"|__start_\w+|__stop_\w+|_ZNSt8ios_base4InitC1Ev|_ZNSt8ios_base4InitD1Ev|_ZSt\d+__throw_\w+|__tls_get_addr)$"
+    r"|__cxa_((thread_)?atexit|finalize|guard_\w+|allocate_exception|free_exception|throw|rethrow|begin_catch"
+    r"|end_catch"
+    r"|get_exception_ptr|init_primary_exception|bad_cast|bad_typeid|pure_virtual|deleted_virtual|throw_bad_array\w*"
+    r"|call_unexpected)"
+    r"|_Unwind_\w+|__gxx_personality_v0|_Z(dl|da|nw|na)Pv\w*|_Z(nw|na)m\w*|_ZSt9terminatev|_ZTV\w+|_ZTI\w+"
+    r"|_ZNK?Sa\w+|_ZNSt15__new_allocator\w+|_ZNSt9exceptionD\dEv|_ZNSt\d+bad_\w+[CD]\dEv|_ZNSt8ios_base4Init\w+"
+    r"|_ZSt(4(cout|cerr|clog)|3cin)|_ZTTN?St\w+|_ZTHN?\w+|__start_\w+|__stop_\w+|_ZSt\d+__throw_\w+|__tls_get_addr)$"
 )
-# Parts of libstdc++ in runtime/containers.cc, and streams, which runtime/others.c follows.
+# Parts of libstdc++ in runtime/containers.cc, and classes that runtime/classes.c follows.
 CONTAINERS = re.compile(r"_ZSt\d+_Rb_tree_(in|de)crement|_ZSt\d+_Rb_tree_(insert_and_rebalance|rebalance_for_erase)"
                         r"|_ZNSt8__detail15_List_node_base(4swap|7_M_hook|9_M_unhook|10_M_reverse|11_M_transfer)E")
-STREAMS = re.compile(r"_ZN?K?S[iod]|basic_[io]?(string|f)?stream|basic_ios|ios_base|_ZSt4(cout|cerr|clog)$|_ZSt3cin$")
+FOLLOWED = re.compile(r"_ZN?K?S[iod]|basic_[io]?(string|f)?stream|basic_ios|ios_base|_ZSt4(cout|cerr|clog)$|_ZSt3cin$"
+                      r"|_ZNK?St\d+(\w+_error|invalid_argument|out_of_range)(C|D|aS|4what)"
+                      r"|_ZNSt6locale(C|D|aS|7classic)")
 SHOWN = 8
 ATOMIC = "an atomic operation"  # as runtime/late.c names it
 
@@ -85,7 +94,7 @@ def of_ir(line):
         found = IR_ASM.search(line)
         if found and found[1].strip():
             return "assembly"
-    return "vector" if IR_VECTOR.search(line) else None
+    return "vector" if IR_VECTOR.search(line) and not of_elements(line) else None
 
 
 def parts_of(arguments):
@@ -238,7 +247,9 @@ CALL = re.compile(
 )
 # gcc's own names of operations of the processor that read or write memory.
 VECTORS = re.compile(r"__builtin_ia32_(mask(load|store|mov)|gather|scatter|movnt|lddqu|addcarry|sbb|rdrand|rdseed|rdtscp"
-                     r"|(load|store|expand|compress)\w*_mask)")
+                     r"|load|store|expandload|compressstore|\w+mem_mask|movdqa\d+(load|store)|f?xsave|f?xrstor|4f"
+                     r"|vp4dpwssd|vbroadcast(s[sd](256)?|f128_p[sd]256)$|aes(enc|dec)\w*kl|directstore|movdir|enqcmd"
+                     r"|clzero|lwp)")
 PASSED = ("__builtin___tsan_", "__tsan_", "cilkrec_", "__cyg_profile", "__complex__", "if", "switch", "register ")
 FUNCTION = re.compile(r";; Function .*\((\w+), funcdef_no=")
 DECLARED = re.compile(r"[\w*] \**(\w+)(?=[;,)])")
@@ -373,7 +384,7 @@ def notes(outside, shared):
     found = [f"lib{name} isn't recorded" if ".so" not in name else f"{name} isn't recorded" for name in shared]
     if any(LOCKS.match(n) for n in outside):
         found.append("locks order nothing in a trace: accesses under one lock still race")
-    names = sorted(set(readable([n for n in unmodelled(outside) if not STREAMS.search(n)])))
+    names = sorted(set(readable([n for n in unmodelled(outside) if not FOLLOWED.search(n)])))
     if names:
         more = f" and {len(names) - SHOWN} more" if len(names) > SHOWN else ""
         found.append("not recorded is what these functions of libraries read and write: "

@@ -1,10 +1,12 @@
-/* Reads and writes: of the program's own text, of a few functions of libc, of the heap; and reducers. */
+/* Reads and writes: of the program's own text, and of the heap; and reducers. */
 #define _GNU_SOURCE
 #include <errno.h>
 #include <malloc.h>
 #include <stdlib.h>
 #include <string.h>
 #include "recorder.h"
+
+extern void *__libc_realloc(void *, size_t);
 
 /* ---- Reducers. Those of classes hold their number; those by keyword are variables, known by their addresses. */
 
@@ -138,22 +140,72 @@ static struct reducer *find_reducer(struct reducers *list, uintptr_t address)
  * does to it, and to memory that it allocates, comes before all that they do. */
 
 struct guarded { uintptr_t from, to; };
-enum { MOST_GUARDED = 256 };
-static struct guarded guarded[MOST_GUARDED];
-static int guarded_count;
+static struct guarded *guarded; /* in the order of their begins */
+static size_t guarded_count, guarded_room;
+extern char __data_start[], _end[]; /* of the program's static variables */
+
+/* How many begin at an address or below it. */
+static size_t guarded_up_to(uintptr_t address)
+{
+    size_t low = 0, high = guarded_count;
+
+    while (low < high) {
+        size_t middle = (low + high) / 2;
+        if (guarded[middle].from <= address)
+            low = middle + 1;
+        else
+            high = middle;
+    }
+    return low;
+}
 
 static bool is_guarded(uintptr_t address)
 {
-    for (int i = 0; i < guarded_count; i++)
-        if (address - guarded[i].from < guarded[i].to - guarded[i].from)
-            return true;
-    return false;
+    size_t n = guarded_up_to(address);
+
+    return n && address < guarded[n - 1].to;
+}
+
+static bool has_guarded_room(void)
+{
+    if (guarded_count < guarded_room)
+        return true;
+    size_t room = guarded_room ? 2 * guarded_room : 256;
+    struct guarded *more = __libc_realloc(guarded, room * sizeof *more);
+    if (!more) {
+        give_up("no memory");
+        return false;
+    }
+    guarded = more;
+    guarded_room = room;
+    return true;
 }
 
 static void add_guarded(uintptr_t address, size_t size)
 {
-    if (guarded_count < MOST_GUARDED)
-        guarded[guarded_count++] = (struct guarded){address, address + size};
+    size_t n = guarded_up_to(address);
+
+    if (n && guarded[n - 1].from == address) { /* a block that was freed */
+        guarded[n - 1].to = address + size;
+        return;
+    }
+    if (!has_guarded_room())
+        return;
+    for (size_t i = guarded_count++; i > n; i--)
+        guarded[i] = guarded[i - 1];
+    guarded[n] = (struct guarded){address, address + size};
+}
+
+/* Whether an initialiser's access isn't written. What it writes to other static variables comes before all uses by
+   those that wait for it; others may use them too, so that is told. */
+static bool is_first_use(enum kind kind, uintptr_t address, const void *return_address)
+{
+    if (is_guarded(address))
+        return true;
+    if (kind != WRITE || address - (uintptr_t)__data_start >= (uintptr_t)(_end - __data_start))
+        return false;
+    keep_unseen("what a static variable's initialiser writes elsewhere", site_before(return_address));
+    return true;
 }
 
 extern int __real___cxa_guard_acquire(uint64_t *guard) __attribute__((weak));
@@ -210,7 +262,7 @@ static inline bool repeats(enum kind kind, uintptr_t address, uint64_t size)
 /* Whether an access isn't written, whatever the filter says. */
 static bool is_other(enum kind kind, uintptr_t address, const void *return_address)
 {
-    if (address - own_low < own_size || unlikely(guards && is_guarded(address)))
+    if (address - own_low < own_size || unlikely(guards && is_first_use(kind, address, return_address)))
         return true;
     if (unlikely(global_reducers.n + local_reducers.n + operations)) {
         if (operations)
@@ -353,7 +405,7 @@ void cilkrec_spawn_into(void *place, size_t size)
     access_cells(WRITE, (uintptr_t)place, size, RETURN_ADDRESS);
 }
 
-/* ---- Functions of libc that are recorded by what they read and write. Spawned directly they are frames, too. */
+/* ---- For models.h: functions of libraries. Spawned directly they are frames, too. */
 
 static bool begin_library_call(const void *return_address)
 {
@@ -371,7 +423,6 @@ static void end_library_call(bool is_frame)
     }
 }
 
-/* The same for the models of libc.c. */
 bool library_begin(const void *at) { return begin_library_call(at); }
 void library_end(bool is_frame) { end_library_call(is_frame); }
 void library_calls(bool spawning)
@@ -385,62 +436,10 @@ void library_access(enum kind kind, const void *p, uint64_t size, const void *at
         access_cells(kind, (uintptr_t)p, size, at);
 }
 
-#define LIBRARY(TYPE, NAME, PARAMETERS, ARGUMENTS, ACCESSES) \
-    extern TYPE __real_##NAME PARAMETERS; \
-    TYPE __wrap_##NAME PARAMETERS \
-    { \
-        const void *at = RETURN_ADDRESS; \
-        bool is_frame = begin_library_call(at); \
-        ACCESSES \
-        TYPE result = __real_##NAME ARGUMENTS; \
-        end_library_call(is_frame); \
-        return result; \
-    }
-#define READS(P, N) access_cells(READ, (uintptr_t)(P), (N), at);
-#define WRITES(P, N) access_cells(WRITE, (uintptr_t)(P), (N), at);
-
-LIBRARY(void *, memcpy, (void *to, const void *from, size_t n), (to, from, n), READS(from, n) WRITES(to, n))
-LIBRARY(void *, memmove, (void *to, const void *from, size_t n), (to, from, n), READS(from, n) WRITES(to, n))
-LIBRARY(void *, memset, (void *to, int value, size_t n), (to, value, n), WRITES(to, n))
-LIBRARY(int, memcmp, (const void *a, const void *b, size_t n), (a, b, n), READS(a, n) READS(b, n))
-LIBRARY(size_t, strlen, (const char *s), (s), READS(s, __real_strlen(s) + 1))
-static size_t equal_part(const char *a, const char *b)
-{
-    size_t n = 0;
-
-    while (a[n] && a[n] == b[n])
-        n++;
-    return n;
-}
-LIBRARY(int, strcmp, (const char *a, const char *b), (a, b),
-        READS(a, equal_part(a, b) + 1) READS(b, equal_part(a, b) + 1))
-LIBRARY(char *, strcpy, (char *to, const char *from), (to, from),
-        READS(from, __real_strlen(from) + 1) WRITES(to, __real_strlen(from) + 1))
-void *__asan_memcpy(void *to, const void *from, size_t n) __attribute__((alias("__wrap_memcpy")));
-void *__asan_memmove(void *to, const void *from, size_t n) __attribute__((alias("__wrap_memmove")));
-void *__asan_memset(void *to, int value, size_t n) __attribute__((alias("__wrap_memset")));
-
-extern void __real_qsort(void *, size_t, size_t, int (*)(const void *, const void *));
-void __wrap_qsort(void *base, size_t n, size_t size, int (*compare)(const void *, const void *))
-{
-    const void *at = RETURN_ADDRESS;
-    bool is_frame = begin_library_call(at), spawning = frames && frames[depth].spawning;
-
-    READS(base, n * size)
-    WRITES(base, n * size)
-    if (is_frame)
-        frames[depth].spawning = false; /* calls of `compare` are no candidates */
-    __real_qsort(base, n, size, compare);
-    if (is_frame)
-        frames[depth].spawning = spawning;
-    end_library_call(is_frame);
-}
-
 /* ---- The heap: an allocation is of new cells, and freeing a block counts as a write of it. */
 
 extern void *__libc_malloc(size_t);
 extern void *__libc_calloc(size_t, size_t);
-extern void *__libc_realloc(void *, size_t);
 extern void *__libc_memalign(size_t, size_t);
 extern void __libc_free(void *);
 
@@ -466,6 +465,10 @@ void *malloc(size_t n) { return new_block(__libc_malloc(n), RETURN_ADDRESS); }
 void *calloc(size_t n, size_t size) { return new_block(__libc_calloc(n, size), RETURN_ADDRESS); }
 void *memalign(size_t alignment, size_t n) { return new_block(__libc_memalign(alignment, n), RETURN_ADDRESS); }
 void *aligned_alloc(size_t alignment, size_t n) { return new_block(__libc_memalign(alignment, n), RETURN_ADDRESS); }
+
+enum { PAGE = 4096 };
+void *valloc(size_t n) { return new_block(__libc_memalign(PAGE, n), RETURN_ADDRESS); }
+void *pvalloc(size_t n) { return new_block(__libc_memalign(PAGE, (n + PAGE - 1) & -(size_t)PAGE), RETURN_ADDRESS); }
 
 int posix_memalign(void **place, size_t alignment, size_t n)
 {

@@ -5,10 +5,10 @@
  * function stops to look. A stream is read by each operation on it, which its own lock orders, and written by fclose,
  * which frees it. Names of files and formats are read as strings. */
 #define _GNU_SOURCE
-#include <errno.h>
 #include <stdarg.h>
 #include <stdlib.h>
 #include <string.h>
+#include <sys/mman.h>
 #include <sys/resource.h>
 #include <sys/stat.h>
 #include <sys/time.h>
@@ -17,112 +17,46 @@
 #include <sys/utsname.h>
 #include <time.h>
 #include <unistd.h>
-#include <wchar.h>
-#include "recorder.h"
-
-/* ---- What models use. Nothing here calls a function of libc that is wrapped. */
-
-#define R(P, N) library_access(READ, (P), (uint64_t)(N), at);
-#define W(P, N) library_access(WRITE, (P), (uint64_t)(N), at);
-#define RS(S) if (S) R(S, length(S) + 1)
-#define RSN(S, N) R(S, text_part(S, N))
-#define RF(F) if (F) R(F, 1)
-#define W1(P) if (P) W(P, sizeof *(P))
-#define R1(P) if (P) R(P, sizeof *(P))
-
-static size_t length(const char *s)
-{
-    size_t n = 0;
-
-    while (s[n])
-        n++;
-    return n;
-}
-
-static size_t wide_length(const wchar_t *s)
-{
-    size_t n = 0;
-
-    while (s[n])
-        n++;
-    return n;
-}
-
-/* How much of a string of at most `most` bytes is read: with its end, if that is in it. */
-static size_t text_part(const char *s, size_t most)
-{
-    size_t n = 0;
-
-    while (n < most && s[n])
-        n++;
-    return n < most ? n + 1 : most;
-}
-
-static size_t wide_part(const wchar_t *s, size_t most)
-{
-    size_t n = 0;
-
-    while (n < most && s[n])
-        n++;
-    return n < most ? n + 1 : most;
-}
-
-static char small(char c) { return c >= 'A' && c <= 'Z' ? (char)(c + 32) : c; }
-
-/* How much a comparison of at most `most` bytes reads of both. */
-static size_t compared(const char *a, const char *b, size_t most, bool any_case)
-{
-    size_t n = 0;
-
-    while (n < most && a[n] && (a[n] == b[n] || (any_case && small(a[n]) == small(b[n]))))
-        n++;
-    return n < most ? n + 1 : most;
-}
-
-static bool is_space(char c) { return c == ' ' || (c >= '\t' && c <= '\r'); }
-
-/* How much of a text the functions that turn one into a number read: the number and what stops it. */
-static size_t number_part(const char *s)
-{
-    size_t n = 0;
-
-    while (is_space(s[n]))
-        n++;
-    if (s[n] == '+' || s[n] == '-')
-        n++;
-    while (s[n] >= '0' && s[n] <= '9')
-        n++;
-    return n + 1;
-}
-
-#define MODEL_AS(TYPE, NAME, REAL, PARAMETERS, ARGUMENTS, BEFORE, AFTER) \
-    extern TYPE __real_##NAME PARAMETERS __attribute__((weak)); \
-    TYPE __wrap_##NAME PARAMETERS \
-    { \
-        const void *at = RETURN_ADDRESS; \
-        bool is_frame = library_begin(at), is_seen = span != UINTPTR_MAX; \
-        if (is_seen) { BEFORE } \
-        TYPE result = REAL ARGUMENTS; \
-        if (is_seen) { int error = errno; AFTER errno = error; } \
-        library_end(is_frame); \
-        return result; \
-    }
-#define MODEL(TYPE, NAME, PARAMETERS, ARGUMENTS, BEFORE, AFTER) \
-    MODEL_AS(TYPE, NAME, __real_##NAME, PARAMETERS, ARGUMENTS, BEFORE, AFTER)
-#define NOTHING(NAME, PARAMETERS, ARGUMENTS, BEFORE, AFTER) \
-    extern void __real_##NAME PARAMETERS __attribute__((weak)); \
-    void __wrap_##NAME PARAMETERS \
-    { \
-        const void *at = RETURN_ADDRESS; \
-        bool is_frame = library_begin(at), is_seen = span != UINTPTR_MAX; \
-        if (is_seen) { BEFORE } \
-        __real_##NAME ARGUMENTS; \
-        if (is_seen) { int error = errno; AFTER errno = error; } \
-        library_end(is_frame); \
-    }
+#include "models.h"
 
 /* ---- string.h, strings.h, wchar.h */
 
+/* Compilers call these for structures, too, so they are needed where a program has its own by these names. */
+void *copied(void *to, const void *from, size_t n)
+{
+    char *t = to;
+    const char *f = from;
+
+    if (t <= f)
+        for (size_t i = 0; i < n; i++)
+            t[i] = f[i];
+    else
+        for (size_t i = n; i > 0; i--)
+            t[i - 1] = f[i - 1];
+    return to;
+}
+
+static void *filled(void *to, int value, size_t n)
+{
+    for (size_t i = 0; i < n; i++)
+        ((char *)to)[i] = (char)value;
+    return to;
+}
+
+#define REAL(NAME, OTHER) (__real_##NAME ? __real_##NAME : OTHER)
+MODEL_AS(void *, memcpy, REAL(memcpy, copied), (void *to, const void *from, size_t n), (to, from, n),
+         R(from, n) W(to, n), )
+MODEL_AS(void *, memmove, REAL(memmove, copied), (void *to, const void *from, size_t n), (to, from, n),
+         R(from, n) W(to, n), )
+MODEL_AS(void *, memset, REAL(memset, filled), (void *to, int value, size_t n), (to, value, n), W(to, n), )
+void *__asan_memcpy(void *to, const void *from, size_t n) __attribute__((alias("__wrap_memcpy")));
+void *__asan_memmove(void *to, const void *from, size_t n) __attribute__((alias("__wrap_memmove")));
+void *__asan_memset(void *to, int value, size_t n) __attribute__((alias("__wrap_memset")));
+MODEL(int, memcmp, (const void *a, const void *b, size_t n), (a, b, n), R(a, n) R(b, n), )
+MODEL(size_t, strlen, (const char *s), (s), , R(s, result + 1))
+MODEL(int, strcmp, (const char *a, const char *b), (a, b),
+      size_t k = compared(a, b, SIZE_MAX, false); R(a, k) R(b, k), )
+MODEL(char *, strcpy, (char *to, const char *from), (to, from), size_t k = length(from) + 1; R(from, k) W(to, k), )
 #define REACHED(S, N) R(S, result ? (const char *)result - (const char *)(S) + 1 : (N))
 MODEL(void *, memchr, (const void *s, int c, size_t n), (s, c, n), , REACHED(s, n))
 MODEL(void *, memrchr, (const void *s, int c, size_t n), (s, c, n), R(s, n), )
@@ -163,14 +97,48 @@ MODEL(char *, strpbrk, (const char *s, const char *set), (s, set), RS(set), REAC
 MODEL(char *, strdup, (const char *s), (s), RS(s), )
 MODEL(char *, __strdup, (const char *s), (s), RS(s), )
 MODEL(char *, strndup, (const char *s, size_t n), (s, n), RSN(s, n), )
+static bool has(const char *signs, char c)
+{
+    while (*signs && *signs != c)
+        signs++;
+    return *signs;
+}
+
+/* The next word of a text: it is read up to the delimiter behind it, which is written. What is left after it. */
+static char *tell_word(const char *s, const char *set, const void *at)
+{
+    size_t from = 0, to;
+
+    RS(set)
+    while (s[from] && has(set, s[from]))
+        from++;
+    for (to = from; s[to] && !has(set, s[to]); to++)
+        ;
+    R(s, to + 1)
+    if (to > from && s[to])
+        W(s + to, 1)
+    return (char *)s + to + (to > from && s[to]);
+}
 /* What lies between two calls is kept in libc: a cell of its own stands for it. */
-static char strtok_state;
-MODEL(char *, strtok, (char *s, const char *set), (s, set), RS(set) W(&strtok_state, 1) RS(s),
-      if (result) { R(result, length(result) + 1) W(result + length(result), 1) })
-MODEL(char *, strtok_r, (char *s, const char *set, char **left), (s, set, left), RS(set) if (!s) R1(left) RS(s),
-      W1(left) if (result) { R(result, length(result) + 1) W(result + length(result), 1) })
-MODEL(char *, __strtok_r, (char *s, const char *set, char **left), (s, set, left), RS(set) if (!s) R1(left) RS(s),
-      W1(left) if (result) { R(result, length(result) + 1) W(result + length(result), 1) })
+static char strtok_state, *strtok_left;
+extern char *__real_strtok(char *, const char *) __attribute__((weak));
+char *__wrap_strtok(char *s, const char *set)
+{
+    const void *at = RETURN_ADDRESS;
+    bool is_frame = library_begin(at);
+    char *from = s ? s : strtok_left;
+
+    W(&strtok_state, 1)
+    if (from)
+        strtok_left = tell_word(from, set, at);
+    char *result = __real_strtok(s, set);
+    library_end(is_frame);
+    return result;
+}
+#define WORDS(NAME) \
+    MODEL(char *, NAME, (char *s, const char *set, char **left), (s, set, left), \
+          if (!s) R1(left) W1(left) if (s || *left) tell_word(s ? s : *left, set, at);, )
+WORDS(strtok_r) WORDS(__strtok_r)
 MODEL(char *, strsep, (char **s, const char *set), (s, set), RS(set) R1(s),
       W1(s) if (result) { R(result, length(result) + 1) if (*s) W(*s - 1, 1) })
 MODEL(char *, strerror_r, (int error_number, char *to, size_t n), (error_number, to, n), , if (result == to) W(to, length(to) + 1))
@@ -188,7 +156,8 @@ MODEL(int, wcscmp, (const wchar_t *a, const wchar_t *b), (a, b),
       size_t k = 0; while (a[k] && a[k] == b[k]) k++; R(a, WIDE(k + 1)) R(b, WIDE(k + 1)), )
 MODEL(int, wcsncmp, (const wchar_t *a, const wchar_t *b, size_t n), (a, b, n),
       size_t k = 0; while (k < n && a[k] && a[k] == b[k]) k++; if (k < n) k++; R(a, WIDE(k)) R(b, WIDE(k)), )
-MODEL(wchar_t *, wcschr, (const wchar_t *s, wchar_t c), (s, c), R(s, WIDE(wide_length(s) + 1)), )
+MODEL(wchar_t *, wcschr, (const wchar_t *s, wchar_t c), (s, c), ,
+      R(s, WIDE((result ? (size_t)(result - s) : wide_length(s)) + 1)))
 MODEL(wchar_t *, wcsrchr, (const wchar_t *s, wchar_t c), (s, c), R(s, WIDE(wide_length(s) + 1)), )
 MODEL(wchar_t *, wcsdup, (const wchar_t *s), (s), R(s, WIDE(wide_length(s) + 1)), )
 MODEL(wchar_t *, wmemcpy, (wchar_t *to, const wchar_t *from, size_t n), (to, from, n), R(from, WIDE(n)) W(to, WIDE(n)), )
@@ -196,7 +165,8 @@ MODEL(wchar_t *, wmemmove, (wchar_t *to, const wchar_t *from, size_t n), (to, fr
 MODEL(wchar_t *, wmempcpy, (wchar_t *to, const wchar_t *from, size_t n), (to, from, n), R(from, WIDE(n)) W(to, WIDE(n)), )
 MODEL(wchar_t *, wmemset, (wchar_t *to, wchar_t c, size_t n), (to, c, n), W(to, WIDE(n)), )
 MODEL(int, wmemcmp, (const wchar_t *a, const wchar_t *b, size_t n), (a, b, n), R(a, WIDE(n)) R(b, WIDE(n)), )
-MODEL(wchar_t *, wmemchr, (const wchar_t *s, wchar_t c, size_t n), (s, c, n), R(s, WIDE(n)), )
+MODEL(wchar_t *, wmemchr, (const wchar_t *s, wchar_t c, size_t n), (s, c, n), ,
+      R(s, WIDE(result ? (size_t)(result - s) + 1 : n)))
 
 /* ---- stdlib.h, math.h */
 
@@ -245,7 +215,8 @@ NUMBER(unsigned long, __isoc23_strtoul) NUMBER(unsigned long long, __isoc23_strt
         return result; \
     }
 REAL_NUMBER(double, strtod) REAL_NUMBER(float, strtof) REAL_NUMBER(long double, strtold)
-MODEL(double, atof, (const char *s), (s), RS(s), )
+MODEL(double, atof, (const char *s), (s),
+      char *after = (char *)s + length(s); if (__real_strtod) __real_strtod(s, &after); R(s, after - s + 1), )
 MODEL(int, rand_r, (unsigned *seed), (seed), R1(seed) W1(seed), )
 extern char **environ;
 MODEL(char *, getenv, (const char *name), (name), RS(name) R(&environ, 8), )
@@ -282,21 +253,22 @@ MODEL(float, lgammaf, (float x), (x), , if (&signgam) W(&signgam, 4))
     }
 CALLING(void *, bsearch, (const void *key, const void *base, size_t n, size_t size, int (*f)(const void *, const void *)),
         (key, base, n, size, f), )
-extern void __real_qsort_r(void *, size_t, size_t, int (*)(const void *, const void *, void *), void *) __attribute__((weak));
-void __wrap_qsort_r(void *base, size_t n, size_t size, int (*f)(const void *, const void *, void *), void *more)
-{
-    const void *at = RETURN_ADDRESS;
-    bool is_frame = library_begin(at), spawning = frames && frames[depth].spawning;
-
-    R(base, n * size)
-    W(base, n * size)
-    if (is_frame)
-        library_calls(false);
-    __real_qsort_r(base, n, size, f, more);
-    if (is_frame)
-        library_calls(spawning);
-    library_end(is_frame);
-}
+#define SORTING(NAME, PARAMETERS, ARGUMENTS) \
+    extern void __real_##NAME PARAMETERS __attribute__((weak)); \
+    void __wrap_##NAME PARAMETERS \
+    { \
+        const void *at = RETURN_ADDRESS; \
+        bool is_frame = library_begin(at), spawning = frames && frames[depth].spawning; \
+        R(base, n * size) \
+        W(base, n * size) \
+        if (is_frame) library_calls(false); \
+        __real_##NAME ARGUMENTS; \
+        if (is_frame) library_calls(spawning); \
+        library_end(is_frame); \
+    }
+SORTING(qsort, (void *base, size_t n, size_t size, int (*f)(const void *, const void *)), (base, n, size, f))
+SORTING(qsort_r, (void *base, size_t n, size_t size, int (*f)(const void *, const void *, void *), void *more),
+        (base, n, size, f, more))
 
 /* ---- time.h and its kin. Those that return a static result write it. */
 
@@ -335,6 +307,26 @@ MODEL(ssize_t, writev, (int fd, const struct iovec *v, int n), (fd, v, n),
 MODEL(ssize_t, readv, (int fd, const struct iovec *v, int n), (fd, v, n), R(v, (size_t)n * sizeof *v),
       ssize_t left = result; for (int i = 0; i < n && left > 0; i++) {
           size_t k = (size_t)left < v[i].iov_len ? (size_t)left : v[i].iov_len; W(v[i].iov_base, k) left -= (ssize_t)k; })
+/* What is mapped is new memory, and what ends is written, as a block that is freed. Much of it no line may name. */
+enum { PAGE_BYTES = 4096 };
+static void tell_map(enum kind kind, const void *p, size_t n, const void *at)
+{
+    uintptr_t from = (uintptr_t)p, to = from + n;
+
+    while (!is_writing && (from = named_page(from, to)) < to) {
+        uintptr_t next = from + PAGE_BYTES < to ? from + PAGE_BYTES : to;
+        if (kind == CLEAR)
+            put_cells(CLEAR, from, next - from, 0);
+        else
+            W(from, next - from)
+        from = next;
+    }
+}
+#define MAPS(NAME) \
+    MODEL(void *, NAME, (void *p, size_t n, int how, int flags, int fd, off_t from), (p, n, how, flags, fd, from), , \
+          if (result != MAP_FAILED) tell_map(CLEAR, result, n, at);)
+MAPS(mmap) MAPS(mmap64)
+MODEL(int, munmap, (void *p, size_t n), (p, n), tell_map(WRITE, p, n, at);, )
 MODEL(int, pipe, (int *to), (to), , if (!result) W(to, 8))
 MODEL(int, stat, (const char *path, struct stat *to), (path, to), RS(path), W1(to))
 MODEL(int, lstat, (const char *path, struct stat *to), (path, to), RS(path), W1(to))
@@ -417,13 +409,6 @@ enum { MOST_ARGUMENTS = 64 };
 struct conversion { char sign; int size, argument, width, precision; bool is_long, is_kept; };
 struct format { struct conversion at[MOST_ARGUMENTS]; int n; enum type types[MOST_ARGUMENTS + 1]; bool is_known; };
 union value { long long word; void *pointer; };
-
-static bool has(const char *signs, char c)
-{
-    while (*signs && *signs != c)
-        signs++;
-    return *signs;
-}
 
 static int digits(const char **p)
 {

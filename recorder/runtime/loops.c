@@ -22,8 +22,6 @@ static void begin_turn(uintptr_t base, const void *return_address)
     f->written = f->spawned = true;
 }
 
-extern void *__real_memcpy(void *, const void *, size_t);
-
 /* gcc's loops: the body takes a copy of `data`, whose first two words say which turns to make. */
 static __attribute__((noinline)) void make_turns(void (*body)(void *), void *data, void (*copy)(void *, void *),
                                                  long size, long alignment, bool up, uint64_t from, uint64_t to,
@@ -40,7 +38,7 @@ static __attribute__((noinline)) void make_turns(void (*body)(void *), void *dat
         if (copy)
             copy(argument, data);
         else
-            __real_memcpy(argument, data, (size_t)size);
+            copied(argument, data, (size_t)size);
         argument[0] = from;
         from = argument[1] = left > stride ? from + step : to;
         left = left > stride ? left - stride : 0;

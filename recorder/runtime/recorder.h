@@ -13,11 +13,11 @@
  * nothing can race with an access, so none is written. And below the deepest frame that has one, the stack belongs to
  * the current strand alone, so accesses to it aren't written. `span` holds both rules in one comparison.
  *
- * trace.c writes lines and keeps the filter, frames.c follows calls, spawns and exceptions, accesses.c has reads, writes,
- * the heap and reducers, libc.c models of libc's functions, vectors.c loads and stores by masks, loops.c `cilk_for`,
- * places.c names of functions and places, late.c what a recording can't hold, others.c calls of libraries, look.c the
- * second run of `cilkrec run`, start.c begins and ends the recording. calls.cc is gcc's plugin, containers.cc libstdc++'s
- * trees and lists; they are compiled apart.
+ * trace.c writes lines and keeps the filter, frames.c follows calls, spawns and exceptions, accesses.c has reads,
+ * writes, the heap and reducers, libc.c models of libc's functions, by models.h, vectors.c loads and stores by masks,
+ * loops.c `cilk_for`, places.c names of functions and places, late.c what a recording can't hold, others.c calls of
+ * libraries, classes.c those of libstdc++'s classes, look.c the second run of `cilkrec run`, start.c begins and ends
+ * the recording. calls.cc is gcc's plugin, containers.cc libstdc++'s trees and lists; they are compiled apart.
  */
 #ifndef CILKREC_RECORDER_H
 #define CILKREC_RECORDER_H
@@ -72,6 +72,7 @@ void put_end(void);
 void put_unseen(uint64_t site);
 void put_cells(enum kind kind, uintptr_t address, uint64_t size, uint64_t site);
 void clear_stack(uintptr_t low, uintptr_t high);
+uintptr_t named_page(uintptr_t from, uintptr_t to);
 
 /* A place of the text that accesses memory: one record for each, in the program's data (inline.py). */
 struct site {
@@ -150,10 +151,12 @@ struct frame *push(uintptr_t base, uintptr_t top, uintptr_t function);
 void end_frame(void);
 void begin_candidate(uint64_t site);
 
-/* ---- accesses.c, places.c */
+/* ---- accesses.c, places.c, libc.c, classes.c */
 
 void retire_locals(void);
 bool library_begin(const void *at);
+void *copied(void *to, const void *from, size_t n);
+bool is_followed(const char *name, const uint64_t *arguments, const void *at);
 void library_end(bool is_frame);
 void library_calls(bool spawning);
 void library_access(enum kind kind, const void *p, uint64_t size, const void *at);

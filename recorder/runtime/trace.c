@@ -242,6 +242,23 @@ static uint32_t page_number(uintptr_t page)
     return near->number;
 }
 
+/* The first page from one address to another of which the trace names a cell; `to` where there is none. */
+uintptr_t named_page(uintptr_t from, uintptr_t to)
+{
+    size_t mask = ((size_t)1 << PAGE_TABLE_BITS) - 1;
+
+    put_runs();
+    for (; from < to; from = (from | ((1 << PAGE_BITS) - 1)) + 1) {
+        uintptr_t page = from >> PAGE_BITS;
+        size_t i = (page * 0x9E3779B97F4A7C15ull) >> (64 - PAGE_TABLE_BITS);
+        while (page_table[i].page && page_table[i].page != page)
+            i = (i + 1) & mask;
+        if (page_table[i].page)
+            return from;
+    }
+    return to;
+}
+
 /* ---- Events over cells. */
 
 enum { LINE_TABLE_BITS = 21, MOST_LINE_KINDS = 1 << 20, SHORT_COUNT = 16 };

@@ -359,6 +359,12 @@ def without_plugin(folder):
         if done.returncode == 0 or "isn't recorded without gcc's plugin" not in done.stderr or (
                 f"{name}:" not in done.stderr and "intrin.h:" not in done.stderr):
             return f"{name} {case}: {done.stderr}"
+    with open(os.path.join(folder, "half.c"), "w", encoding="utf-8") as f:
+        f.write("#include <immintrin.h>\nfloat f[4];\n"
+                "int main(void) { _mm_storeh_pi((__m64 *)f, _mm_set1_ps(1)); return 0; }\n")
+    done = call([CILKREC, "gcc", "half.c", "-o", "prog"], folder, **env)
+    if done.returncode == 0 or "`__builtin_ia32_storehps` isn't recorded without gcc's plugin" not in done.stderr:
+        return done.stderr
     for name in ("c/libc_free.c", "feat/vector_free.cpp"):
         done = call([CILKREC, "g++" if name.endswith("pp") else "gcc", os.path.join(HERE, name), "-o", "prog"], folder, **env)
         if done.returncode:
@@ -392,6 +398,36 @@ def told_calls(folder, compiler):
     call(["./prog"], folder, CILK_TRACE="trace", CILK_TRACE_UNSEEN="0")
     with open(os.path.join(folder, "trace"), "rb") as f:
         return "unasked" if "unseen" in (e[0] for e in cilktrace.events(f)) else None
+
+
+CLASSES = """#include <cxxabi.h>
+#include <sstream>
+#include <stdexcept>
+int g, status;
+void f() { g = 1; }
+std::stringstream in("1 2"), out;
+int main() {
+  cilk_spawn f();
+  std::runtime_error e(in.str());
+  out << in.rdbuf();
+  free(abi::__cxa_demangle("_Z1fv", 0, 0, &status));
+  cilk_sync;
+  return !out.good();
+}
+"""
+
+
+def told_classes(folder, compiler):
+    """Of libstdc++'s classes the functions that aren't followed are told, others not."""
+    with open(os.path.join(folder, "p.cpp"), "w", encoding="utf-8") as f:
+        f.write("#include <cilk/cilk.h>\n" + CLASSES)
+    wrong = judged(folder, compiler, "race-free", "p.cpp")
+    if wrong:
+        return wrong
+    done = call(["./prog"], folder, CILK_TRACE="trace", CILK_SITES="sites", CILK_TRACE_UNSEEN="1")
+    names = [name.split("(")[0] for name in unseen_names(folder)]
+    is_told = len(names) == 2 and names[1] == "__cxa_demangle" and "operator<<" in names[0]
+    return None if is_told else f"{names} {done.stderr}"
 
 
 VALUES = """static void zero(void *v) { *(int *)v = 0; }
@@ -453,6 +489,7 @@ def build():
     yield "without gcc's plugin", without_plugin, ()
     for compiler in ("gcc", "clang"):
         yield f"calls {compiler}", told_calls, (compiler,)
+        yield f"classes {compiler}", told_classes, (compiler.replace("gcc", "g++").replace("clang", "clang++"),)
     for compilers in (("gcc", "g++"), ("clang", "clang++"), ("gcc", "clang++")):
         for spread, want in ((0, "race-free"), (1, "race")):
             yield f"Makefile {'+'.join(compilers)} {want}", made, (compilers, spread, want)
@@ -467,7 +504,7 @@ def build():
 
 def is_refused(folder, compiler, path, want):
     """A text that doesn't compile or link, with the message in its first line."""
-    done = call([CILKREC, compiler, path, "-o", "prog", "-pthread"], folder)
+    done = call([CILKREC, compiler, path, "-o", "prog", "-pthread", "-fopenmp"], folder)
     if done.returncode == 0 or os.path.exists(os.path.join(folder, "prog")):
         return "it was taken"
     return None if want in done.stderr and "Traceback" not in done.stderr else f"{done.stderr[:600]}"
@@ -479,8 +516,9 @@ def refused():
         with open(path, encoding="utf-8") as f:
             want = f.readline()[3:].strip().replace("cilkrec: ", "", 1)
         for compiler in ("g++", "clang++") if path.endswith(".cpp") else ("gcc", "clang"):
-            if os.path.basename(path) == {"gcc": "spawned.c", "clang": "nested.c"}.get(compiler):
-                continue  # gcc records such spawns; clang has no such functions
+            if os.path.basename(path) == {"gcc": "spawned.c", "clang": "nested.c"}.get(compiler) or (
+                    compiler == "clang" and "optimized" in path):
+                continue  # gcc records such spawns; clang has no such functions, nor such attributes
             yield f"{os.path.basename(path)} {compiler}", is_refused, (compiler, path, want)
 
 
@@ -498,7 +536,7 @@ def is_late(folder, compiler, path):
         return wrong
     done = call(["./prog"], folder, CILK_TRACE="trace", CILK_SITES="sites", CILK_TRACE_UNSEEN="1")
     with open(path, encoding="utf-8") as f:
-        want = set() if path.endswith("_free.c") else {f.readline().split(": ")[1].strip()}
+        want = set() if "_free." in path else {f.readline().split(": ")[1].strip()}
     if set(unseen_names(folder)) != want or bool(want) != ("not recorded, while" in done.stderr):
         return f"{unseen_names(folder)} {done.stderr[:600]}"
     return None if done.returncode == call(["./prog"], folder).returncode == 0 else f"status {done.returncode}"
@@ -508,8 +546,8 @@ def late():
     """What a recording can't hold: not told where nothing is parallel, else a line `unseen` for each place."""
     with open("/proc/cpuinfo", encoding="ascii", errors="replace") as f:
         has_masks = " avx512f" in f.read()
-    for path in sorted(glob.glob(os.path.join(HERE, "late", "*.c"))):
-        for compiler in ("gcc", "clang"):
+    for path in sorted(glob.glob(os.path.join(HERE, "late", "*.c*"))):
+        for compiler in ("g++", "clang++") if path.endswith(".cpp") else ("gcc", "clang"):
             name = os.path.basename(path)
             if name == "maskmove.c" and compiler == "gcc":
                 continue  # it makes that of operations that are recorded

@@ -30,6 +30,10 @@ void cilkrec_reducer_value(unsigned reducer);
 void cilkrec_reducer_retire(unsigned reducer);
 #ifdef __cplusplus
 }
+/* What a call of this type gives. */
+template <class T> struct cilkrec_given { enum { is_value = 1 }; };
+template <class T> struct cilkrec_given<T &> { enum { is_value = 0 }; };
+template <class T> struct cilkrec_given<T &&> { enum { is_value = 0 }; };
 #endif
 
 #define cilk_sync cilkrec_sync()

@@ -8,8 +8,9 @@ int main(void)
 {
     int a[4], i = 0, *p = a + 1;
     struct pair pair, *q = &pair;
-    a[i++] = cilk_spawn twice(1);
-    *p++ = cilk_spawn twice(2);
+    a[i] = cilk_spawn twice(1);
+    *p = cilk_spawn twice(2);
+    i++, p++;
     *(p) = cilk_spawn twice(3);
     q->left = cilk_spawn twice(4);
     pair.right = cilk_spawn twice(5);
