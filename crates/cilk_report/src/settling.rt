@@ -46,40 +46,49 @@ fn usage(alloc: Global, words: &[&str]) -> Result<String, AllocError> {
 
 fn push_wrong(text: &mut String, words: &[&str]) -> Result<(), AllocError> {
     let (mut is_every, mut is_fixed, mut is_read, mut is_formed) = (false, false, false, false);
-    let mut awaits = "";
+    let (mut wants_file, mut wants_list) = (false, false);
     for word in words.iter().skip(1) {
-        if awaits == "--fix" && !is_list(word) {
+        if wants_list && !is_list(word) {
             return write!(text, "`{word}` is no list of positions such as 0,3..5");
         }
-        if !awaits.is_empty() {
-            awaits = "";
+        if wants_file || wants_list {
+            wants_file = false;
+            wants_list = false;
             continue;
         }
         match *word {
             "--input" if is_read => return text.push_str("`--input` stands there twice"),
             "--fix" if is_fixed => return text.push_str("`--fix` stands there twice"),
-            "--input" | "--fix" => awaits = *word,
             "--short" | "--json" if is_formed => {
                 return text.push_str(
                     "`--short` and `--json` are two forms: one may be named, once",
                 );
             }
+            "--input" => {
+                wants_file = true;
+                is_read = true;
+            }
+            "--fix" => {
+                wants_list = true;
+                is_fixed = true;
+            }
             "--short" | "--json" => is_formed = true,
-            "--every" | "--explain" | "--color" => {}
+            "--every" => is_every = true,
+            "--explain" | "--color" => {}
             other if other.starts_with("--") => {
                 return write!(text, "`settle` has no option `{other}` beside these words");
             }
             _ => {}
         }
-        is_every = is_every || *word == "--every";
-        is_fixed = is_fixed || *word == "--fix";
-        is_read = is_read || *word == "--input";
     }
-    text.push_str(match awaits {
-        "--input" => "`--input` wants a file",
-        "--fix" => "`--fix` wants a list of positions such as 0,3..5",
-        _ if is_fixed && !is_every => "`--fix` goes with `--every` alone",
-        _ => "these words name no programs to settle",
+    text.push_str(if wants_file {
+        "`--input` wants a file"
+    } else if wants_list {
+        "`--fix` wants a list of positions such as 0,3..5"
+    } else if is_fixed && !is_every {
+        "`--fix` goes with `--every` alone"
+    } else {
+        "these words name no programs to settle"
     })
 }
 
